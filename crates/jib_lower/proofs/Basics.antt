@@ -1,5 +1,5 @@
 -- The types that every model has, and the kit of a setting.
-use Rattle.std.proofs.Common.{◌≡◌, ◌∙◌, ℕ, zero, suc, ◌<◌, ℤ, Bool, true, false, List, [], ◌∷◌, length, map, Option, Some, None, refl, sym, ap, subst}
+use Rattle.std.proofs.Common.{◌≡◌, ◌∙◌, ℕ, zero, suc, ◌+◌, ◌<◌, ℤ, Bool, true, false, List, [], ◌∷◌, length, map, Option, Some, None, refl, sym, ap, subst}
 use Rattle.std.proofs.Common.{arith}
 use Rattle.std.specs.Prelude.{◌&&◌, ◌++◌, slice_get, slice_index_or}
 use Rattle.sail_types.specs.Sums.{constant}
@@ -139,6 +139,16 @@ pub got_before : {A : Type 0} (xs more : List A) (i : ℕ) (x : A) → slice_get
 got_before [] more i x h = none_is x h
 got_before (z ∷ xs) more zero x h = h
 got_before (z ∷ xs) more (suc i) x h = got_before xs more i x h
+
+pub get_past : {A : Type 0} (xs ys : List A) (k : ℕ) → slice_get (xs ++ ys) (length xs + k) ≡ slice_get ys k
+get_past [] ys k = ap (slice_get ys) (begun k)
+  where
+    begun : (k : ℕ) → 0 + k ≡ k
+    begun k = omega arith
+get_past (x ∷ xs) ys k = ap (slice_get (x ∷ (xs ++ ys))) (next (length xs) k) ∙ get_past xs ys k
+  where
+    next : (n k : ℕ) → suc n + k ≡ suc (n + k)
+    next n k = omega arith
 
 pub is_there : {A : Type 0} (xs : List A) (i : ℕ) → i < length xs → (x : A) × (slice_get xs i ≡ Some x)
 is_there [] i lt = absurd (nothing lt)

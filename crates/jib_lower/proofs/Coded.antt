@@ -21,12 +21,13 @@ use Rattle.jib_lower.specs.declared.functions.Head.{Head}
 use Rattle.jib_lower.specs.declared.instances.Model.{Model}
 use Rattle.jib_lower.specs.Lowered.{ArmTaken, NameMade, OpeningAround, ValueMade, let_hand}
 use Rattle.jib_lower.specs.Openings.{LetMade, NameCode, ValueCode}
+use Rattle.jib_lower.specs.Reads.{tree_reads}
 use Rattle.jib_lower.proofs.Held.{holds}
 
 module _ (model : Model) (before names : List ℕ) (walk : Walk) (judge : Judge) (head : Head) (made : Made) where
   -- of a value
   abbrev value_of : (o : Opening) (bodies : List (List NodeSizes)) (typ : Sized) → ValueCode walk judge head o typ made
-      → OpeningAround model bodies before names walk judge head → head.result ≡ type_in model.numbered.now typ
+      → OpeningAround model bodies (tree_reads bodies o.value) before names walk judge head → head.result ≡ type_in model.numbered.now typ
       → ValueMade model o bodies before names made
   value_of o bodies typ code around result = record {
     walk = walk;
@@ -44,18 +45,18 @@ module _ (model : Model) (before names : List ℕ) (walk : Walk) (judge : Judge)
   }
 
   pub value_made : (o : Opening) (bodies : List (List NodeSizes)) (typ : Sized) → ValueCode walk judge head o typ made
-      → OpeningAround model bodies before names walk judge head → head.result ≡ type_in model.numbered.now typ
+      → OpeningAround model bodies (tree_reads bodies o.value) before names walk judge head → head.result ≡ type_in model.numbered.now typ
       → ValueMade model o bodies before names made
   value_made o bodies typ code around result = value_of o bodies typ code around result
 
   -- of a let
   pub let_made : (o : Opening) (bodies : List (List NodeSizes)) (arm : Arm) (typ : Sized) → ValueCode walk judge head o typ made
-      → OpeningAround model bodies before names walk judge head → head.result ≡ type_in model.numbered.now typ
+      → OpeningAround model bodies (tree_reads bodies o.value) before names walk judge head → head.result ≡ type_in model.numbered.now typ
       → ArmTaken walk.setting.now walk.around.now o.value arm typ → LetMade model o bodies before names arm typ made
   let_made o bodies arm typ code around result taken = record { value = value_of o bodies typ code around result; taken = taken }
 
   -- of a name
-  pub name_made : (name : LetName) (arm : Arm) → NameCode walk judge head name arm made → OpeningAround model [] before names walk judge head
+  pub name_made : (name : LetName) (arm : Arm) → NameCode walk judge head name arm made → OpeningAround model [] [] before names walk judge head
       → head.result ≡ type_in model.numbered.now name.typ.now → name.steps.now ≡ steps_in arm
       → NameMade model name.place name.opening name.whole.now name.steps.now name.name.now before names made
   name_made name arm code around result steps = record {

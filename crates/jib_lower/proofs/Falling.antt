@@ -14,7 +14,7 @@ use Rattle.sized_nodes.specs.declared.trees.NodeSizes.{NodeSizes}
 use Rattle.sized_nodes.specs.declared.trees.NodeSizes.TheVariants as N
 use Rattle.sized_nodes.specs.declared.trees.SizedInstance.{SizedInstance}
 use Rattle.jib_lower.specs.Cycles.{AllEven, CyclesFit, Even, EvenBehind, Falls, FitIfAny, GraphOf, Joined, NumbersOf, alike, in_one, pair_fits}
-use Rattle.jib_lower.specs.Cycles.{bodies_fall, cycle_at, instances_fall, leads_fall, nodes_fall, number_there}
+use Rattle.jib_lower.specs.Cycles.{bodies_fall, cycle_at, instances_fall, leads_fall, nodes_fall, number_there, turns_fall}
 use Rattle.jib_lower.proofs.Basics.{and_left, and_right, both, some_same}
 
 pub le_true : (a b : ℕ) → nat_le a b ≡ true → a ≤ b
@@ -197,8 +197,8 @@ fits_even functions ns fit k i ik j ij jk f g e there h = by (eqb_tells (slice_i
         no : false ≡ true → ⊥
         no p = cc
 
-module _ (functions : List Function) (xs : List SizedInstance) (g : List (List ℕ)) (graph : GraphOf functions xs g) (c : Cycles) (numbers : List ℕ)
-    (is : NumbersOf c numbers) (nodes : node_count c ≡ length g)
+module _ (functions : List Function) (xs : List SizedInstance) (mappings : List (List NodeSizes)) (turns g : List (List ℕ))
+    (graph : GraphOf functions xs mappings turns g) (c : Cycles) (numbers : List ℕ) (is : NumbersOf c numbers) (nodes : node_count c ≡ length g)
     (components : (left right : ℕ) → left < length g → right < length g
     → ((component_of c left ≡ component_of c right) → AreConnected g left right))
     (order : (from to : ℕ) → HasEdge g from to → component_of c to ≤ component_of c from) where
@@ -234,11 +234,18 @@ module _ (functions : List Function) (xs : List SizedInstance) (g : List (List �
           omega (arith, le, at u (starts_inside g u v e), at v lt)
       by (inr out) = omega (arith, past_zero numbers v (omega (arith, few, out)))
 
-  pub best : FitIfAny functions xs numbers
-  best others fit low = (record { many = many; each = each }, graph.calls numbers few number_falls)
+  pub best : FitIfAny functions xs mappings turns numbers
+  best others all = record {
+    cycles = record { many = many; each = each };
+    falls = graph.calls numbers few number_falls;
+    turns_so = graph.turned numbers few number_falls;
+  }
     where
+      fit : CyclesFit functions others
+      fit = all.cycles
+
       falls : Falls others g
-      falls = graph.falls others (omega (arith, fit.many, graph.many)) low (fits_even functions others fit (length functions))
+      falls = graph.falls others (omega (arith, fit.many, graph.many)) all.falls all.turns_so (fits_even functions others fit (length functions))
 
       even : (i j : ℕ) → Even functions numbers i j
       even = even_pairs functions numbers (graph.even numbers few number_falls)
@@ -440,17 +447,22 @@ all_even_next fs i a b c x y = joined_then (AllEven fs i) (EvenBehind fs i (leng
 
 -- ---- the whole graph
 
-pub graph_joined : (fs : List Function) (xs : List SizedInstance) (a b c : List (List ℕ)) → length a ≡ length fs → ((ns : List ℕ) → Falls ns a)
-    → Joined (λ ns. instances_fall ns xs xs ≡ true) a b → Joined (AllEven fs (length fs)) b c → GraphOf fs xs c
-graph_joined fs xs a b c many none x y = record {
-  many = y.many ∙ x.many ∙ many;
-  falls = λ ns few low even. y.falls ns (there ns few) (x.falls ns (here ns few) (none ns) low) even;
-  calls = λ ns few f. (x.fell ns (here ns few) (y.fell ns (there ns few) f).0).1;
-  even = λ ns few f. (y.fell ns (there ns few) f).1;
+pub graph_joined : (fs : List Function) (xs : List SizedInstance) (ms : List (List NodeSizes)) (turns a b c d : List (List ℕ)) → length a ≡ length fs
+    → ((ns : List ℕ) → Falls ns a) → Joined (λ ns. instances_fall ns xs xs ≡ true) a b → Joined (λ ns. turns_fall ns xs ms turns xs ≡ true) b c
+    → Joined (AllEven fs (length fs)) c d → GraphOf fs xs ms turns d
+graph_joined fs xs ms turns a b c d many none x y z = record {
+  many = z.many ∙ y.many ∙ x.many ∙ many;
+  falls = λ ns few low turn even. z.falls ns (last ns few) (y.falls ns (there ns few) (x.falls ns (here ns few) (none ns) low) turn) even;
+  calls = λ ns few f. (x.fell ns (here ns few) (y.fell ns (there ns few) (z.fell ns (last ns few) f).0).0).1;
+  turned = λ ns few f. (y.fell ns (there ns few) (z.fell ns (last ns few) f).0).1;
+  even = λ ns few f. (z.fell ns (last ns few) f).1;
 }
   where
-    there : (ns : List ℕ) → length ns ≤ length c → length ns ≤ length b
-    there ns few = subst (λ n. length ns ≤ n) y.many few
+    last : (ns : List ℕ) → length ns ≤ length d → length ns ≤ length c
+    last ns few = subst (λ n. length ns ≤ n) z.many few
 
-    here : (ns : List ℕ) → length ns ≤ length c → length ns ≤ length a
+    there : (ns : List ℕ) → length ns ≤ length d → length ns ≤ length b
+    there ns few = subst (λ n. length ns ≤ n) y.many (last ns few)
+
+    here : (ns : List ℕ) → length ns ≤ length d → length ns ≤ length a
     here ns few = subst (λ n. length ns ≤ n) x.many (there ns few)

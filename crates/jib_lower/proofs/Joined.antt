@@ -1,5 +1,5 @@
--- The module of a model, joined of what is made of its parts, of its openings and of its instances.
-use Rattle.std.proofs.Common.{◌≡◌, ◌∙◌, ◌++◌, ℕ, List, [], ◌+◌, ap, arith, subst, sym}
+-- The module of a model, joined of what is made of its parts, of its openings, of its instances and of directions.
+use Rattle.std.proofs.Common.{◌≡◌, ◌∙◌, ◌++◌, ℕ, List, [], ◌+◌, ap, append_assoc, arith, length, subst, sym, true}
 use Rattle.std.specs.Prelude.{◌*◌}
 use Rattle.sail_core.specs.declared.model.CoreModel.{CoreModel}
 use Rattle.sized_nodes.specs.declared.trees.SizedCore.{SizedCore}
@@ -8,10 +8,15 @@ use Rattle.jib.specs.declared.code.Module.{Module}
 use Rattle.jib_lower.specs.declared.instances.Model.{Model}
 use Rattle.jib_lower.specs.declared.lowering.Parts.{Parts}
 use Rattle.jib_lower.specs.declared.openings.Opened.{Opened}
+use Rattle.jib_lower.specs.Crossings.{made_many}
+use Rattle.jib_lower.specs.Directions.{WaysMade}
+use Rattle.jib_lower.specs.Entering.{mapped_from}
 use Rattle.jib_lower.specs.Instances.{CalledAre}
 use Rattle.jib_lower.specs.Leads.{AllAlone, EachAlone}
-use Rattle.jib_lower.specs.Lowered.{FlatFrom, ModelOf, OpeningsMade}
+use Rattle.jib_lower.specs.Lowered.{FlatFrom, ModelOf, OpeningsMade, opened_from}
 use Rattle.jib_lower.specs.Parts.{FunctionsOf, ModelBy, OpenedOf, PartsOf}
+use Rattle.jib_lower.specs.Types.{all_in_ways}
+use Rattle.jib_lower.proofs.Ways.{ways_many}
 
 pub twice : (n k b : ℕ) → k ≡ n → b ≡ k + k → b ≡ 2 * n
 twice n k b e h = omega (arith, e, h)
@@ -59,17 +64,26 @@ flat_from core sized parts opened functions m p o f alone openings types excepti
   is = model_of core sized parts m p shelled f.model f.is;
   bare = o.bare;
   bare_is = model_of core sized parts m p shelled o.bare o.is;
-  called = subst (λ cs. CalledAre core sized p.table.numbered cs) (sym f.is.called) p.called;
-  functions = functions;
-  instances = f.made;
+  called = subst (λ ts. CalledAre core sized p.table.numbered f.model.called.now ts) (sym f.is.turned)
+      (subst (λ cs. CalledAre core sized p.table.numbered cs parts.turned) (sym f.is.called) p.called);
+  entered = f.is.directions ∙ p.entered ∙ ap (λ n. mapped_from core.types n core.directions parts.turned) p.before
+      ∙ ap (mapped_from core.types (2 * length sized.instances) core.directions) (sym f.is.turned);
+  in_ways = subst (λ ts. all_in_ways p.table.numbered sized.mappings 0 core.directions ts ≡ true) (sym f.is.turned) p.is.in_ways;
+  functions = f.made.called;
+  instances = f.made.instances;
+  ways = f.made.ways;
+  directions = subst (λ n. WaysMade f.model 0 n core.directions f.model.turned.now f.made.ways) p.before
+      (subst (λ (c : CoreModel). WaysMade f.model 0 parts.before c.directions f.model.turned.now f.made.ways) f.is.of_core f.made.directions);
   opened = opened.functions;
   of_registers = o.made.registers;
   openings = subst (λ ts. OpeningsMade o.bare 0 core.openings [] [] opened.functions o.made.registers ts f.model.openings.now) (sym f.lets)
       (subst (λ ns. OpeningsMade o.bare 0 core.openings [] [] opened.functions o.made.registers opened.types ns) (sym f.names)
       (subst (λ (c : CoreModel). OpeningsMade o.bare 0 c.openings [] [] opened.functions o.made.registers opened.types opened.names) o.is.of_core
       o.made.made));
-  all = all;
-  opens = opens ∙ o.made.opens;
+  all = all ∙ ap (λ fs. fs ++ opened.functions) f.made.all ∙ append_assoc f.made.called f.made.ways opened.functions;
+  opens = opens ∙ o.made.opens ∙ ap (λ n. opened_from n o.made.registers)
+      (p.opened_at ∙ ap (λ ts. parts.before + made_many ts) (sym f.is.turned) ∙ ap (λ n. parts.before + n) (ways_many f.model f.made.directions)
+      ∙ ap (λ n. n + length f.made.ways) p.before);
 }
   where
     shelled : Shelled parts m

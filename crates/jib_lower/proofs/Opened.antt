@@ -30,6 +30,7 @@ use Rattle.lowered_pieces.specs.Lowering.{kit_of, piece}
 use Rattle.lowered_pieces.specs.Openings.{named_piece}
 use Rattle.lowered_pieces.specs.Places.{Kit, Naming}
 use Rattle.lowered_pieces.specs.Tables.{Tables}
+use Rattle.lowered_steps.specs.declared.setting.Reads.{Reads}
 use Rattle.lowered_steps.specs.declared.setting.Setting.{Setting}
 use Rattle.lowered_steps.specs.Setting.{kit_for, number_for, size_for, tables_for}
 use Rattle.lowered_ends.specs.declared.around.Around.{Around}
@@ -50,8 +51,8 @@ use Rattle.jib_lower.specs.declared.instances.Model.{Model}
 use Rattle.jib_lower.specs.Functions.{FunctionMade}
 use Rattle.jib_lower.specs.Lowered.{FlatFrom, NameMade, NamesMade, OpeningAround, OpeningsMade, ValueMade, named_more, named_none, opened_from, opens_let}
 use Rattle.jib_lower.specs.Lowered.{opens_none, opens_register}
-use Rattle.jib_lower.proofs.Basics.{basic_of, both, slot_there, some_same, there_below}
-use Rattle.jib_lower.proofs.Placing.{LetsThere, basics, exception_here, kit_here, numbered_are, numbered_here, stands_here}
+use Rattle.jib_lower.proofs.Basics.{basic_of, both, get_past, slot_there, some_same, there_below}
+use Rattle.jib_lower.proofs.Placing.{LetsThere, basics, exception_here, kit_here, numbered_are, numbered_here, opened_there, stands_here}
 use Rattle.jib_lower.proofs.Standing.{function_is_right}
 
 none_is : {A X : Type 0} (x : A) → None ≡ Some x → X
@@ -87,16 +88,6 @@ result_at : (fs : List Made) (k t : ℕ) → slice_get (results fs) k ≡ Some t
 result_at [] k t e = none_is t e
 result_at (f ∷ fs) zero t e = (f, refl, some_same f.result t e)
 result_at (f ∷ fs) (suc k) t e = result_at fs k t e
-
-pub get_past : {A : Type 0} (xs ys : List A) (k : ℕ) → slice_get (xs ++ ys) (length xs + k) ≡ slice_get ys k
-get_past [] ys k = ap (slice_get ys) (begun k)
-  where
-    begun : (k : ℕ) → 0 + k ≡ k
-    begun k = omega arith
-get_past (x ∷ xs) ys k = ap (slice_get (x ∷ (xs ++ ys))) (next (length xs) k) ∙ get_past xs ys k
-  where
-    next : (n k : ℕ) → suc n + k ≡ suc (n + k)
-    next n k = omega arith
 
 opened_at : (rs : List (Option ℕ)) (n k : ℕ) → k < length rs → (o : MadeOpening) × (slice_get (opened_from n rs) k ≡ Some o) × (o.function ≡ n + k)
 opened_at [] n k lt = absurd (nothing lt)
@@ -152,12 +143,9 @@ module _ (core : CoreModel) (sized : SizedCore) (m : Module) (low : FlatFrom cor
       let r = result_at low.opened k t (ap (λ ts. slice_get ts k) (sym types) ∙ e) in
       let lt : k < length low.of_registers =
       subst (λ n. k < n) (sym (opens_many low.bare low.openings)) (there_below low.opened k r.0 r.1) in
-      let o = opened_at low.of_registers (2 * length sized.instances) k lt in
-      let many : length low.functions ≡ 2 * length sized.instances =
-      low.instances.many ∙ ap (λ (z : SizedCore). 2 * length z.instances) low.is.of_sized in
-      ap (λ os. opening_typ m (slice_get os k)) low.opens ∙ ap (opening_typ m) o.1
-      ∙ ap (λ n. result_some (slice_get m.functions n)) (o.2 ∙ ap (λ n. n + k) (sym many))
-      ∙ ap (λ fs. result_some (slice_get fs (length low.functions + k))) low.all ∙ ap result_some (get_past low.functions low.opened k ∙ r.1) ∙ ap Some r.2
+      let o = opened_at low.of_registers (2 * length sized.instances + length low.ways) k lt in
+      ap (λ os. opening_typ m (slice_get os k)) low.opens ∙ ap (opening_typ m) o.1 ∙ ap (λ n. result_some (slice_get m.functions n)) o.2
+      ∙ ap result_some (opened_there core sized m low k r.0 r.1) ∙ ap Some r.2
 
   -- ---- the function of an opening
 
@@ -169,8 +157,8 @@ module _ (core : CoreModel) (sized : SizedCore) (m : Module) (low : FlatFrom cor
   Before before = (k t : ℕ) → slice_get before k ≡ Some t → slice_get low.model.lets.now k ≡ Some t
 
   module _ (laws : OpeningLaws) where
-    module _ (bodies : List (List NodeSizes)) (before names : List ℕ) (walk : Walk) (judge : Judge) (head : Head)
-        (oa : OpeningAround low.bare bodies before names walk judge head) (prefix : Before before) where
+    module _ (bodies : List (List NodeSizes)) {told : List Reads} (before names : List ℕ) (walk : Walk) (judge : Judge) (head : Head)
+        (oa : OpeningAround low.bare bodies told before names walk judge head) (prefix : Before before) where
       abbrev setting : Setting
       setting = walk.setting.now
 
@@ -224,7 +212,7 @@ module _ (core : CoreModel) (sized : SizedCore) (m : Module) (low : FlatFrom cor
         is_pure = is.is_pure ∙ oa.pure ∙ sym oa.is_pure;
         entered = λ q ts d.
             none_is ts (ap (λ (cs : List Called). parameters_in judge.signs.now.cycle (slice_get cs q)) (sym oa.called) ∙ d);
-        directed = λ d h. no (ap (λ (cs : List ℕ). turned_in judge.signs.now.cycle (slice_get cs d)) (sym oa.turned) ∙ h);
+        directed = λ d h. no (ap (λ (cs : List (Option ℕ)). turned_in judge.signs.now.cycle (slice_get cs d)) (sym oa.turned) ∙ h);
       }
         where
           let_is : (f : Made) → FunctionMade setting head coding f → (k t : ℕ) → slice_get before k ≡ Some t → let_typ m f k ≡ Some t

@@ -1,6 +1,6 @@
 -- Functions of instances stand in the module: with the slots of their code, and with calls of functions that are there.
 use Rattle.std.proofs.Common.{◌≡◌, ◌∙◌, ℕ, zero, suc, ◌<◌, ◌≤◌, ℤ, Bool, true, false, List, [], ◌∷◌, length, map, Option, Some, None, refl, sym, ap, subst}
-use Rattle.std.proofs.Common.{arith}
+use Rattle.std.proofs.Common.{◌+◌, ◌++◌, arith}
 use Rattle.std.specs.Prelude.{◌*◌, cond, if◌then◌else◌, nat_le, nat_lt, slice_get}
 use Rattle.std.proofs.lemmas.Bool.Decides.{nat_tests}
 use Rattle.sail_core.specs.declared.model.CoreModel.{CoreModel}
@@ -23,21 +23,26 @@ use Rattle.lowered_pieces.specs.declared.coding.Coding.{Coding}
 use Rattle.lowered_pieces.specs.Nodes.{told_as}
 use Rattle.lowered_pieces.specs.Places.{Naming}
 use Rattle.lowered_pieces.specs.Lowering.{kit_of}
+use Rattle.lowered_steps.specs.declared.setting.Reads.{Reads}
 use Rattle.lowered_steps.specs.declared.setting.Setting.{Setting}
 use Rattle.lowered_steps.specs.Setting.{kit_for, number_for, size_for, tables_for}
 use Rattle.lowered_ends.specs.declared.around.Around.{Around}
-use Rattle.lowered_ends.specs.Around.{answer_in, callees_of, result_in}
+use Rattle.lowered_ends.specs.declared.around.Mapped.{Mapped as Direction}
+use Rattle.lowered_ends.specs.Around.{answer_in, callees_of, direction_in, result_in}
 use Rattle.lowered_typed.specs.declared.signs.Called.{Called}
 use Rattle.lowered_typed.specs.Judging.{parameters_in, signs_of, turned_in}
 use Rattle.lowered_validity.specs.Laws.{Numbered, sizes_small}
 use Rattle.lowered_validity.specs.Right.{Entered, Placed, Signs}
 use Rattle.jib_lower.specs.declared.instances.Model.{Model}
+use Rattle.jib_lower.specs.Directions.{WayAround, WayMade}
+use Rattle.jib_lower.specs.Entering.{mapped_by}
 use Rattle.jib_lower.specs.Functions.{FunctionMade}
 use Rattle.jib_lower.specs.Instances.{Enters, MadeAt, SettingOf}
 use Rattle.jib_lower.specs.Lowered.{FlatFrom, ModelOf}
 use Rattle.jib_lower.specs.Types.{all_small, exception_typ}
 use Rattle.jib_lower.proofs.Basics.{and_left, and_right, basic_of, got_before, integer_typ, is_there, kit_same, nothing_typ, slot_there, some_same}
-use Rattle.jib_lower.proofs.Basics.{there_below, truth_typ}
+use Rattle.jib_lower.proofs.Basics.{get_past, there_below, truth_typ}
+use Rattle.jib_lower.proofs.Ways.{WayFound, way_found}
 
 none_is : {A X : Type 0} (x : A) → None ≡ Some x → X
 none_is x e = cc
@@ -83,7 +88,7 @@ module _ (core : CoreModel) (sized : SizedCore) (m : Module) (low : FlatFrom cor
   -- ---- what is around code
 
   module _ (model : Model) (mo : ModelOf core sized low.table m model) (bodies : List (List NodeSizes)) (numbers : List (Option ℤ)) (setting : Setting)
-      (s : SettingOf model bodies numbers setting) where
+      {told : List Reads} (s : SettingOf model bodies numbers told setting) where
     types_are : setting.types.now ≡ core.types
     types_are = s.types ∙ ap (λ c. c.types) mo.of_core
 
@@ -126,7 +131,29 @@ module _ (core : CoreModel) (sized : SizedCore) (m : Module) (low : FlatFrom cor
   LetsThere = (k t : ℕ) → slice_get low.model.lets.now k ≡ Some t → opening_typ m (slice_get m.openings k) ≡ Some t
 
   function_there : (k : ℕ) (f : Made) → slice_get low.functions k ≡ Some f → slice_get m.functions k ≡ Some f
-  function_there k f e = ap (λ fs. slice_get fs k) low.all ∙ got_before low.functions low.opened k f e
+  function_there k f e = ap (λ fs. slice_get fs k) low.all ∙ got_before low.functions (low.ways ++ low.opened) k f e
+
+  -- the k-th function of directions stands behind those of instances
+  pub way_there : (k : ℕ) (f : Made) → slice_get low.ways k ≡ Some f → slice_get m.functions (2 * length sized.instances + k) ≡ Some f
+  way_there k f e =
+      let many : length low.functions ≡ 2 * length sized.instances =
+      low.instances.many ∙ ap (λ (z : SizedCore). 2 * length z.instances) low.is.of_sized in
+      ap (λ n. slice_get m.functions (n + k)) (sym many) ∙ ap (λ fs. slice_get fs (length low.functions + k)) low.all
+      ∙ get_past low.functions (low.ways ++ low.opened) k ∙ got_before low.ways low.opened k f e
+
+  -- and behind these the k-th of openings
+  pub opened_there : (k : ℕ) (f : Made) → slice_get low.opened k ≡ Some f
+      → slice_get m.functions (2 * length sized.instances + length low.ways + k) ≡ Some f
+  opened_there k f e =
+      let many : length low.functions ≡ 2 * length sized.instances =
+      low.instances.many ∙ ap (λ (z : SizedCore). 2 * length z.instances) low.is.of_sized in
+      ap (slice_get m.functions) (grouped (2 * length sized.instances) (length low.ways) k)
+      ∙ ap (λ n. slice_get m.functions (n + (length low.ways + k))) (sym many)
+      ∙ ap (λ fs. slice_get fs (length low.functions + (length low.ways + k))) low.all
+      ∙ get_past low.functions (low.ways ++ low.opened) (length low.ways + k) ∙ get_past low.ways low.opened k ∙ e
+    where
+      grouped : (a b c : ℕ) → a + b + c ≡ a + (b + c)
+      grouped a b c = omega arith
 
   same_some : {A : Type 0} (x y : A) (o : Option A) → o ≡ Some x → o ≡ Some y → x ≡ y
   same_some x y o e f = some_same x y (sym e ∙ f)
@@ -162,7 +189,7 @@ module _ (core : CoreModel) (sized : SizedCore) (m : Module) (low : FlatFrom cor
         self n = omega (arith)
 
     -- so for what is decided to be entered
-    entered : (cycle p : ℕ) (ts : List ℕ) (o : Option Called) → slice_get low.model.called.now p ≡ o → f.cycle ≡ cycle
+    pub entered : (cycle p : ℕ) (ts : List ℕ) (o : Option Called) → slice_get low.model.called.now p ≡ o → f.cycle ≡ cycle
         → (number : Sized → ℕ) → number ≡ type_in ss → (instances : List SizedInstance) → instances ≡ sized.instances
         → parameters_in cycle o ≡ Some ts → Entered m f (2 * p) (number (answer_in (slice_get instances p))) ts
     entered cycle p ts None e same number is instances are d = none_is ts d
@@ -180,6 +207,51 @@ module _ (core : CoreModel) (sized : SizedCore) (m : Module) (low : FlatFrom cor
             (subst (λ n. c.cycle ≤ n) (sym same) (le_true c.cycle cycle h)) number (answer_in (slice_get instances p))
             (ap (λ (n : Sized → ℕ). n (answer_in (slice_get instances p))) is
             ∙ ap (λ (xs : List SizedInstance). type_in ss (answer_in (slice_get xs p))) are ∙ ap (λ o. type_in ss (answer_in o)) r.1))
+
+    -- so for a direction of a mapping that may be called
+    pub directed : (cycle : ℕ) → f.cycle ≡ cycle → (number : Sized → ℕ) → number ≡ type_in ss → (xs : List Direction) → xs ≡ low.model.directions.now
+        → (ts : List (Option ℕ)) → ts ≡ low.model.turned.now → (d : ℕ) → turned_in cycle (slice_get ts d) ≡ true
+        → Entered m f (direction_in (slice_get xs d)).function (number (direction_in (slice_get xs d)).gives)
+        (number (direction_in (slice_get xs d)).takes ∷ [])
+    directed cycle same number is xs xs_are ts ts_are d h =
+        by (slice_get low.model.turned.now d) refl (ap (λ us. turned_in cycle (slice_get us d)) (sym ts_are) ∙ h)
+      where
+        self : (n : ℕ) → n ≤ n
+        self n = omega (arith)
+
+        found : (c : ℕ) → c ≤ cycle → (w : WayFound low.model 0 (2 * length sized.instances) c core.directions low.model.turned.now low.ways d)
+            → Entered m f (direction_in (slice_get xs d)).function (number (direction_in (slice_get xs d)).gives)
+            (number (direction_in (slice_get xs d)).takes ∷ [])
+        found c below w =
+            let way : WayMade low.model (0 + d) (2 * length sized.instances + w.k) c w.m w.made = w.way in
+            let x : Direction = mapped_by low.model.core.now.types (2 * length sized.instances + w.k) w.m in
+            let at : slice_get xs d ≡ Some x =
+            ap (λ ys. slice_get ys d) (xs_are ∙ low.entered) ∙ w.entered core.types
+            ∙ ap (λ (z : CoreModel). Some (mapped_by z.types (2 * length sized.instances + w.k) w.m)) (sym low.is.of_core) in
+            let g : FunctionMade way.taken.walk.setting.now way.taken.head way.taken.code.coding w.made = way.taken.code.is in
+            let around : WayAround low.model (way.nodes ∷ []) w.m x c way.taken.walk way.taken.judge way.taken.head = way.taken.around in
+            let numbers : number_for way.taken.walk.setting.now ≡ number =
+            ap type_in (numbered_are low.model low.is (way.nodes ∷ []) [] way.taken.walk.setting.now around.setting) ∙ sym is in
+            subst (λ (o : Option Direction). Entered m f (direction_in o).function (number (direction_in o).gives) (number (direction_in o).takes ∷ []))
+            (sym at)
+            (record {
+              called = w.made;
+              there = way_there w.k w.made w.there;
+              takes = g.parameters ∙ ap (λ n. map n way.taken.head.given.now) numbers ∙ ap (map number) around.takes;
+              gives = g.result ∙ around.gives ∙ ap (λ us. type_in us x.gives) low.is.numbered ∙ ap (λ (n : Sized → ℕ). n x.gives) (sym is);
+              cycle = subst (λ n. n ≤ f.cycle) (sym (g.cycle ∙ around.head_cycle)) (subst (λ n. c ≤ n) (sym same) below);
+              lets = subst (λ n. n ≤ f.lets) (sym (g.lets ∙ around.reads ∙ sym lets)) (self f.lets);
+              ticks = ticked w.made way.taken.code.coding g.code (ap (λ code. is_tick (slice_get code 0)) way.taken.code.code.put);
+            })
+
+        by : (o : Option (Option ℕ)) → slice_get low.model.turned.now d ≡ o → turned_in cycle (slice_get low.model.turned.now d) ≡ true
+            → Entered m f (direction_in (slice_get xs d)).function (number (direction_in (slice_get xs d)).gives)
+            (number (direction_in (slice_get xs d)).takes ∷ [])
+        by None e g = no (sym (ap (turned_in cycle) e) ∙ g)
+        by (Some None) e g = no (sym (ap (turned_in cycle) e) ∙ g)
+        by (Some (Some c)) e g =
+            found c (le_true c cycle (sym (ap (turned_in cycle) e) ∙ g))
+            (way_found low.model low.directions d c e)
 
   -- ---- the functions of an instance
 
@@ -232,7 +304,8 @@ module _ (core : CoreModel) (sized : SizedCore) (m : Module) (low : FlatFrom cor
           (is.cycle ∙ at.headed.cycle_is ∙ sym at.signs.cycle_is) (number_for setting_at) (ap type_in numbers_are) around_at.instances.now
           (at.around.instances ∙ ap (λ (z : SizedCore). z.instances) low.is.of_sized)
           (ap (λ (cs : List Called). parameters_in at.judge.signs.now.cycle (slice_get cs q)) (sym at.signs.called) ∙ d);
-      directed = λ d h. no (ap (λ (cs : List ℕ). turned_in at.judge.signs.now.cycle (slice_get cs d)) (sym at.signs.turned) ∙ h);
+      directed = λ d h. directed f (is.lets ∙ at.headed.lets) at.judge.signs.now.cycle (is.cycle ∙ at.headed.cycle_is ∙ sym at.signs.cycle_is)
+          (number_for setting_at) (ap type_in numbers_are) around_at.directions.now at.around.directions at.judge.signs.now.turned.now at.signs.turned d h;
     }
       where
         let_is : (f : Made) → FunctionMade setting_at at.head coding f → (k t : ℕ) → slice_get low.model.lets.now k ≡ Some t → let_typ m f k ≡ Some t

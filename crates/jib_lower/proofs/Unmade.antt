@@ -45,6 +45,7 @@ pub or_more : {R Q : Type 0} → (R → Q) → (e : LowerError) → OrMemory R e
 or_more f L.Memory h = tt
 or_more f (L.Table t) h = f h
 or_more f L.NotTabled h = f h
+or_more f L.NotResolved h = f h
 or_more f (L.NotLowered p) h = f h
 or_more f (L.NotSized p) h = f h
 or_more f L.NotThere h = f h

@@ -25,13 +25,17 @@ use Rattle.jib.specs.Valid.{all_typs, function_right, is_typ, opened_by, opening
 use Rattle.lowered_pieces.specs.Arms.{steps_in}
 use Rattle.lowered_types.specs.Table.{all_known, form_never, is_known, type_in}
 use Rattle.lowered_types.proofs.Standing.{known_lt}
+use Rattle.jib_lower.specs.Directions.{WayMade}
 use Rattle.jib_lower.specs.Instances.{MadeAt}
 use Rattle.jib_lower.specs.Lowered.{FlatFrom, NamesMade, OpeningsMade, named_more, named_none, opened_from, opens_let, opens_none}
 use Rattle.jib_lower.specs.Lowered.{opens_register}
 use Rattle.jib_lower.specs.Types.{all_in_registers, exception_typ}
 use Rattle.jib_lower.proofs.Basics.{and_left, and_right, both, got_before, is_there, some_same, there_below}
+use Rattle.jib_lower.proofs.Placing.{opened_there}
 use Rattle.jib_lower.proofs.Standing.{Laws, called_is_right, event_is_right}
-use Rattle.jib_lower.proofs.Opened.{OpeningLaws, assoc, get_past, lets_there, name_is_right, names_types, nones, opens_types, results, value_is_right}
+use Rattle.jib_lower.proofs.Opened.{OpeningLaws, assoc, lets_there, name_is_right, names_types, nones, opens_types, results, value_is_right}
+use Rattle.jib_lower.proofs.Turning.{WayLaws, way_is_right}
+use Rattle.jib_lower.proofs.Ways.{way_is}
 
 none_is : {A X : Type 0} (x : A) → None ≡ Some x → X
 none_is x e = cc
@@ -277,7 +281,7 @@ module _ (core : CoreModel) (sized : SizedCore) (m : Module) (low : FlatFrom cor
 
   -- ---- the module
 
-  module _ (laws : Laws) (opening_laws : OpeningLaws) where
+  module _ (laws : Laws) (opening_laws : OpeningLaws) (way_laws : WayLaws) where
     many_functions : length low.functions ≡ 2 * length sized.instances
     many_functions = low.instances.many ∙ ap (λ (z : SizedCore). 2 * length z.instances) low.is.of_sized
 
@@ -313,17 +317,24 @@ module _ (core : CoreModel) (sized : SizedCore) (m : Module) (low : FlatFrom cor
             (subst (λ g. function_right m (2 * i + 1) g ≡ true) (same_function (2 * i + 1) k f q.1.event e is q.1.event_there)
             (event_is_right core sized m low laws (lets_there core sized m low) i q.0 q.1))
 
-    function_there : (k : ℕ) (f : Made) → slice_get m.functions k ≡ Some f → function_right m k f ≡ true
-    function_there k f e = by (of_two low.functions low.opened k f (ap (λ fs. slice_get fs k) (sym low.all) ∙ e))
+    way_right : (k n : ℕ) (f : Made) → slice_get low.ways k ≡ Some f → function_right m n f ≡ true
+    way_right k n f e =
+        let w = way_is low.model low.directions k f e in
+        way_is_right core sized m low way_laws n w.j w.number w.cycle w.m f w.at (subst (λ d. WayMade low.model d w.number w.cycle w.m f) (begun w.j) w.way)
       where
-        by : (slice_get low.functions k ≡ Some f) ⊎ ((j : ℕ) × (slice_get low.opened j ≡ Some f)) → function_right m k f ≡ true
-        by (inl h) = instance_right k f h
-        by (inr r) = facts_right 0 low.of_registers low.opened (facts opening_laws) r.0 k f r.1
+        begun : (j : ℕ) → 0 + j ≡ j
+        begun j = omega arith
 
-    opened_there : (j : ℕ) (f : Made) → slice_get low.opened j ≡ Some f → slice_get m.functions (2 * length sized.instances + j) ≡ Some f
-    opened_there j f e =
-        ap (λ n. slice_get m.functions (n + j)) (sym many_functions) ∙ ap (λ fs. slice_get fs (length low.functions + j)) low.all
-        ∙ get_past low.functions low.opened j ∙ e
+    function_there : (k : ℕ) (f : Made) → slice_get m.functions k ≡ Some f → function_right m k f ≡ true
+    function_there k f e = by (of_two low.functions (low.ways ++ low.opened) k f (ap (λ fs. slice_get fs k) (sym low.all) ∙ e))
+      where
+        behind : (j : ℕ) → (slice_get low.ways j ≡ Some f) ⊎ ((i : ℕ) × (slice_get low.opened i ≡ Some f)) → function_right m k f ≡ true
+        behind j (inl h) = way_right j k f h
+        behind j (inr r) = facts_right 0 low.of_registers low.opened (facts opening_laws) r.0 k f r.1
+
+        by : (slice_get low.functions k ≡ Some f) ⊎ ((j : ℕ) × (slice_get (low.ways ++ low.opened) j ≡ Some f)) → function_right m k f ≡ true
+        by (inl h) = instance_right k f h
+        by (inr r) = behind r.0 (of_two low.ways low.opened r.0 f r.1)
 
     zero_more : (k : ℕ) → k ≡ 0 + k
     zero_more k = omega arith
@@ -337,7 +348,7 @@ module _ (core : CoreModel) (sized : SizedCore) (m : Module) (low : FlatFrom cor
         (each_of (function_right m) 0 m.functions
         (λ k f h. subst (λ n. function_right m n f ≡ true) (zero_more k) (function_there k f h))))
         (ap (each (opening_right m) 0) low.opens
-        ∙ facts_open 0 (2 * length sized.instances) low.of_registers low.opened (facts opening_laws) opened_there)
+        ∙ facts_open 0 (2 * length sized.instances + length low.ways) low.of_registers low.opened (facts opening_laws) (opened_there core sized m low))
       where
         a : Bool
         a = each typ_right 0 m.types

@@ -14,6 +14,7 @@ use Rattle.jib_lower.specs.declared.functions.Head.{Head}
 use Rattle.jib_lower.specs.declared.instances.Model.{Model}
 use Rattle.jib_lower.specs.Functions.{InstanceMade}
 use Rattle.jib_lower.specs.Instances.{AroundOf, HeadOf, IsPlain, SettingOf, SignsOf}
+use Rattle.jib_lower.specs.Reads.{function_reads}
 
 -- what calls of an instance enter, with this number of the cycle of its function
 pub record EntersBy (numbered : List Sized) (x : SizedInstance) (cycle : ℕ) (c : Called) : Type 0 where
@@ -42,7 +43,7 @@ pub record MadeBy (model : Model) (x : SizedInstance) (cycle : ℕ) (called even
   pub head : Head
   pub found : slice_get model.core.now.functions x.instance.function ≡ Some function
   pub plain : IsPlain x signature
-  pub setting : SettingOf model x.bodies x.instance.numbers walk.setting.now
+  pub setting : SettingOf model x.bodies x.instance.numbers (function_reads x.bodies function) walk.setting.now
   pub around : AroundOf model x signature walk.around.now
   pub judged : (judge.setting.now ≡ walk.setting.now) × (judge.around.now ≡ walk.around.now)
   pub signs : SignsOf model signature cycle judge.signs.now

@@ -1,5 +1,5 @@
 -- The numbers of cycles of calls, by the functions of a model: how they stand to the cycles of the model, and to the calls of its instances.
-use Rattle.std.specs.Prelude.{◌≡◌, ℕ, Bool, true, false, ◌&&◌, not, List, [], ◌∷◌, length, Option, Some, None, nat_eq, slice_get, slice_index_or}
+use Rattle.std.specs.Prelude.{◌≡◌, ℕ, ◌/◌, Bool, true, false, ◌&&◌, not, List, [], ◌∷◌, length, Option, Some, None, nat_eq, slice_get, slice_index_or}
 use Rattle.std.specs.Prelude.{if◌then◌else◌, nat_le, nat_lt, ◌<◌, ◌≤◌}
 use Rattle.call_graph.specs.declared.found.Cycles.{Cycles}
 use Rattle.call_graph.specs.Components.{component_of, node_count}
@@ -67,6 +67,35 @@ abbrev pub instances_fall : List ℕ → List SizedInstance → List SizedInstan
 instances_fall numbers xs [] = true
 instances_fall numbers xs (x ∷ rest) = bodies_fall numbers xs (slice_index_or numbers x.instance.function 0) x.bodies && instances_fall numbers xs rest
 
+-- so do those of a mapping, of which these are the nodes
+abbrev pub mapping_falls : List ℕ → List SizedInstance → ℕ → Option (List NodeSizes) → Bool
+mapping_falls numbers xs own None = true
+mapping_falls numbers xs own (Some nodes) = nodes_fall numbers xs own nodes
+
+-- those of the mappings of these directions; a mapping has two
+abbrev pub directions_fall : List ℕ → List SizedInstance → List (List NodeSizes) → ℕ → List ℕ → Bool
+directions_fall numbers xs mappings own [] = true
+directions_fall numbers xs mappings own (d ∷ ds) = mapping_falls numbers xs own (slice_get mappings (d / 2)) && directions_fall numbers xs mappings own ds
+
+-- those of the directions to which the calls of a function lead, where there is one
+abbrev pub turn_falls : List ℕ → List SizedInstance → List (List NodeSizes) → ℕ → Option (List ℕ) → Bool
+turn_falls numbers xs mappings own None = true
+turn_falls numbers xs mappings own (Some ds) = directions_fall numbers xs mappings own ds
+
+-- and those of the directions to which the calls of these instances lead, by their functions
+abbrev pub turns_fall : List ℕ → List SizedInstance → List (List NodeSizes) → List (List ℕ) → List SizedInstance → Bool
+turns_fall numbers xs mappings turns [] = true
+turns_fall numbers xs mappings turns (x ∷ rest) =
+    turn_falls numbers xs mappings (slice_index_or numbers x.instance.function 0) (slice_get turns x.instance.function)
+    && turns_fall numbers xs mappings turns rest
+
+-- the functions of a module's cycles have these numbers: they fit the cycles of the model and the calls of its instances, through directions too
+pub record NumbersFit (functions : List Function) (xs : List SizedInstance) (mappings : List (List NodeSizes)) (turns : List (List ℕ)) (numbers : List ℕ)
+    : Type 0 where
+  pub cycles : CyclesFit functions numbers
+  pub falls : instances_fall numbers xs xs ≡ true
+  pub turns_so : turns_fall numbers xs mappings turns xs ≡ true
+
 -- ---- how the numbers are found: as those of the components of a graph of calls
 
 -- the function of each instance is there, of so many
@@ -96,12 +125,15 @@ EvenBehind functions i k numbers = (j : ℕ) → i < j → j < k → Even functi
 abbrev pub AllEven : List Function → ℕ → List ℕ → Type 0
 AllEven functions k numbers = (i : ℕ) → i < k → EvenBehind functions i (length functions) numbers
 
--- a graph of the functions with an edge for each call of an instance, and edges both ways between those of one cycle of the model
-pub record GraphOf (functions : List Function) (xs : List SizedInstance) (graph : List (List ℕ)) : Type 0 where
+-- a graph of the functions with an edge for each call of an instance, also of those to which directions lead, and edges both ways between those of one cycle
+-- of the model
+pub record GraphOf (functions : List Function) (xs : List SizedInstance) (mappings : List (List NodeSizes)) (turns : List (List ℕ)) (graph : List (List ℕ))
+    : Type 0 where
   pub many : length graph ≡ length functions
-  pub falls : (numbers : List ℕ) → length numbers ≤ length graph → instances_fall numbers xs xs ≡ true → AllEven functions (length functions) numbers
-      → Falls numbers graph
+  pub falls : (numbers : List ℕ) → length numbers ≤ length graph → instances_fall numbers xs xs ≡ true → turns_fall numbers xs mappings turns xs ≡ true
+      → AllEven functions (length functions) numbers → Falls numbers graph
   pub calls : (numbers : List ℕ) → length numbers ≤ length graph → Falls numbers graph → instances_fall numbers xs xs ≡ true
+  pub turned : (numbers : List ℕ) → length numbers ≤ length graph → Falls numbers graph → turns_fall numbers xs mappings turns xs ≡ true
   pub even : (numbers : List ℕ) → length numbers ≤ length graph → Falls numbers graph → AllEven functions (length functions) numbers
 
 -- the numbers of its components
@@ -110,6 +142,6 @@ pub record NumbersOf (cycles : Cycles) (numbers : List ℕ) : Type 0 where
   pub each : (node : ℕ) → node < node_count cycles → slice_index_or numbers node 0 ≡ component_of cycles node
 
 -- where any numbers fit the cycles of the model and the calls of its instances, these do
-abbrev pub FitIfAny : List Function → List SizedInstance → List ℕ → Type 0
-FitIfAny functions xs numbers = (others : List ℕ) → CyclesFit functions others → instances_fall others xs xs ≡ true
-    → CyclesFit functions numbers × (instances_fall numbers xs xs ≡ true)
+abbrev pub FitIfAny : List Function → List SizedInstance → List (List NodeSizes) → List (List ℕ) → List ℕ → Type 0
+FitIfAny functions xs mappings turns numbers = (others : List ℕ) → NumbersFit functions xs mappings turns others
+    → NumbersFit functions xs mappings turns numbers

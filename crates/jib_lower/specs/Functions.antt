@@ -15,6 +15,10 @@ use Rattle.lowered_typed.specs.Judging.{typed}
 use Rattle.lowered_typed.specs.Here as here
 use Rattle.jib_lower.specs.declared.functions.Head.{Head}
 
+-- what code is made by that is judged by this
+abbrev pub walk_by : Judge → Walk
+walk_by judge = record { alloc = judge.alloc; setting = judge.setting; around = judge.around }
+
 -- whether a function's trees are lowered here, its measure where it is in a cycle
 abbrev pub measure_able : Walk → Naming → Function → Bool
 measure_able walk name f = all_in (λ c. (node_for walk.setting.now walk.around.now name c).ok) (measure_of f.cycle f.measure)

@@ -13,6 +13,7 @@ use Rattle.sized_nodes.specs.declared.trees.SizedInstance.{SizedInstance}
 use Rattle.jib.specs.declared.code.Function.{Function as Made}
 use Rattle.lowered_types.specs.Table.{type_in}
 use Rattle.lowered_pieces.specs.Nodes.{all_plain, plain_told, told_as}
+use Rattle.lowered_steps.specs.declared.setting.Reads.{Reads}
 use Rattle.lowered_steps.specs.declared.setting.Setting.{Setting}
 use Rattle.lowered_ends.specs.declared.around.Around.{Around}
 use Rattle.lowered_functions.specs.Walk.{Walk}
@@ -21,18 +22,21 @@ use Rattle.lowered_typed.specs.declared.signs.Judge.{Judge}
 use Rattle.lowered_typed.specs.declared.signs.Signs.{Signs}
 use Rattle.jib_lower.specs.declared.functions.Head.{Head}
 use Rattle.jib_lower.specs.declared.instances.Model.{Model}
-use Rattle.jib_lower.specs.Cycles.{CyclesFit, instances_fall}
+use Rattle.jib_lower.specs.Crossings.{turned_by, turns_of, ways_fall}
+use Rattle.jib_lower.specs.Cycles.{NumbersFit}
 use Rattle.jib_lower.specs.Functions.{InstanceMade}
+use Rattle.jib_lower.specs.Reads.{function_reads}
 
 abbrev pub number_among : List Sized → Sized → ℕ
 number_among = type_in
 
--- what the code of a function is made by
-pub record SettingOf (model : Model) (bodies : List (List NodeSizes)) (numbers : List (Option ℤ)) (setting : Setting) : Type 0 where
+-- what the code of a function is made by, which reads its variables at these types
+pub record SettingOf (model : Model) (bodies : List (List NodeSizes)) (numbers : List (Option ℤ)) (reads : List Reads) (setting : Setting) : Type 0 where
   pub types : setting.types.now ≡ model.core.now.types
   pub numbered : setting.numbered.now ≡ model.numbered.now
   pub bodies_are : setting.bodies.now ≡ bodies
   pub numbers_are : setting.numbers.now ≡ numbers
+  pub reads_are : setting.reads.now ≡ reads
   pub nothing : setting.nothing.now ≡ model.nothing.now
   pub truths : setting.truths.now ≡ model.truths.now
   pub unit : setting.unit ≡ type_in model.numbered.now model.nothing.now
@@ -44,7 +48,7 @@ pub record AroundOf (model : Model) (x : SizedInstance) (s : Signature) (around 
   pub instances : around.instances.now ≡ model.sized.now.instances
   pub given : around.given.now ≡ map told_as s.parameters
   pub openings : around.openings.now ≡ model.openings.now
-  pub directions : around.directions.now ≡ []
+  pub directions : around.directions.now ≡ model.directions.now
 
 -- the types of what is around the functions of an instance, the calls of which have this number of a cycle
 pub record SignsOf (model : Model) (s : Signature) (cycle : ℕ) (signs : Signs) : Type 0 where
@@ -54,7 +58,7 @@ pub record SignsOf (model : Model) (s : Signature) (cycle : ℕ) (signs : Signs)
   pub is_pure : signs.is_pure ≡ false
   pub cycle_is : signs.cycle ≡ cycle
   pub called : signs.called.now ≡ model.called.now
-  pub turned : signs.turned.now ≡ []
+  pub turned : signs.turned.now ≡ model.turned.now
 
 pub record HeadOf (model : Model) (s : Signature) (cycle : ℕ) (head : Head) : Type 0 where
   pub given : head.given.now ≡ map told_as s.parameters
@@ -76,11 +80,12 @@ pub record Enters (numbered : List Sized) (cycles : List ℕ) (x : SizedInstance
   pub parameters : c.parameters ≡ map (type_in numbered) (map told_as signature.parameters)
   pub cycle : c.cycle ≡ slice_index_or cycles x.instance.function 0
 
-pub record CalledAre (core : CoreModel) (sized : SizedCore) (numbered : List Sized) (called : List Called) : Type 0 where
+-- what calls enter, and the numbers of the cycles of directions, by those of functions
+pub record CalledAre (core : CoreModel) (sized : SizedCore) (numbered : List Sized) (called : List Called) (turned : List (Option ℕ)) : Type 0 where
   pub many : length called ≡ length sized.instances
   pub cycles : List ℕ
-  pub fit : CyclesFit core.functions cycles
-  pub falls : instances_fall cycles sized.instances sized.instances ≡ true
+  pub fit : NumbersFit core.functions sized.instances sized.mappings (turns_of core) cycles
+  pub turned_is : turned ≡ turned_by core sized cycles
   pub each : (i : ℕ) (x : SizedInstance) → slice_get sized.instances i ≡ Some x → (c : Called) × (slice_get called i ≡ Some c) × Enters numbered cycles x c
 
 -- both functions of the instance at a place
@@ -96,7 +101,7 @@ pub record MadeAt (model : Model) (functions : List Made) (i : ℕ) (x : SizedIn
   pub found : slice_get model.core.now.functions x.instance.function ≡ Some function
   pub plain : IsPlain x signature
   pub enters : slice_get model.called.now i ≡ Some called_is
-  pub setting : SettingOf model x.bodies x.instance.numbers walk.setting.now
+  pub setting : SettingOf model x.bodies x.instance.numbers (function_reads x.bodies function) walk.setting.now
   pub around : AroundOf model x signature walk.around.now
   pub judged : (judge.setting.now ≡ walk.setting.now) × (judge.around.now ≡ walk.around.now)
   pub signs : SignsOf model signature called_is.cycle judge.signs.now

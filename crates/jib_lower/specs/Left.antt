@@ -1,13 +1,15 @@
 -- Why a part of a module isn't made: the test of its definition that fails.
-use Rattle.std.specs.Prelude.{◌≡◌, ℕ, ◌+◌, true, false, List, [], ◌∷◌, ◌++◌, length, map, Option, Some, None, slice_get}
+use Rattle.std.specs.Prelude.{◌≡◌, ℕ, ◌+◌, ◌/◌, true, false, List, [], ◌∷◌, ◌++◌, length, map, Option, Some, None, slice_get}
 use Rattle.sail_base.specs.declared.place.Place.{Place}
 use Rattle.sail_core.specs.declared.patterns.Arm.{Arm}
 use Rattle.sail_core.specs.declared.patterns.Step.{Step}
 use Rattle.sail_core.specs.declared.tree.Core.{Core}
 use Rattle.sail_core.specs.declared.model.CoreModel.{CoreModel}
+use Rattle.sail_core.specs.declared.model.Direction.{Direction}
 use Rattle.sail_core.specs.declared.model.Function.{Function}
 use Rattle.sail_core.specs.declared.model.Opening.{Opening}
 use Rattle.sail_core.specs.declared.model.OpeningKind.TheVariants as K
+use Rattle.sail_types.specs.declared.types.Typ.{Typ}
 use Rattle.size_values.specs.declared.sized.Sized.{Sized}
 use Rattle.size_values.specs.declared.sized.Sized.TheVariants as S
 use Rattle.sized_nodes.specs.declared.trees.NodeSizes.{NodeSizes}
@@ -22,13 +24,16 @@ use Rattle.jib.specs.Valid.{typ_right}
 use Rattle.lowered_types.specs.Table.{type_in}
 use Rattle.lowered_pieces.specs.declared.coding.Coding.{Coding}
 use Rattle.lowered_pieces.specs.Arms.{steps_in}
+use Rattle.lowered_pieces.specs.Mapped.{ends_with, fixed_end}
 use Rattle.lowered_pieces.specs.Places.{Naming}
+use Rattle.lowered_steps.specs.declared.setting.Reads.{Reads}
 use Rattle.lowered_steps.specs.declared.setting.Setting.{Setting}
 use Rattle.lowered_steps.specs.Setting.{number_for}
+use Rattle.lowered_ends.specs.declared.around.Mapped.{Mapped}
 use Rattle.lowered_ends.specs.Around.{node_for}
 use Rattle.lowered_tables.specs.Built.{SomeNoValueType, value_at}
 use Rattle.lowered_functions.specs.Walk.{Walk}
-use Rattle.lowered_functions.specs.Made.{CodeMade, called_for, event_for, name_for, value_for}
+use Rattle.lowered_functions.specs.Made.{CodeMade, called_for, event_for, mapping_for, name_for, value_for}
 use Rattle.lowered_functions.specs.declared.openings.LetName.{LetName}
 use Rattle.lowered_typed.specs.declared.signs.Called.{Called}
 use Rattle.lowered_typed.specs.declared.signs.Judge.{Judge}
@@ -37,21 +42,26 @@ use Rattle.lowered_typed.specs.Judging.{typed}
 use Rattle.jib_lower.specs.declared.functions.Head.{Head}
 use Rattle.jib_lower.specs.declared.instances.Model.{Model}
 use Rattle.jib_lower.specs.Types.{all_sizes_fit, numbered_types}
-use Rattle.jib_lower.specs.Cycles.{CyclesFit, instances_fall}
+use Rattle.jib_lower.specs.Crossings.{AllStay, turns_of}
+use Rattle.jib_lower.specs.Cycles.{NumbersFit}
+use Rattle.jib_lower.specs.Directions.{BodyOf, WayAround, types_known}
+use Rattle.jib_lower.specs.Entering.{mapped_by}
 use Rattle.jib_lower.specs.Functions.{FunctionMade, able_for, typed_for}
-use Rattle.jib_lower.specs.Instances.{AroundOf, HeadOf, IsPlain, SettingOf, SignsOf}
+use Rattle.jib_lower.specs.Instances.{AroundOf, HeadOf, IsPlain, SettingOf, SignsOf, leads_alone}
 use Rattle.jib_lower.specs.Lowered.{ArmTaken, NameMade, OpeningAround, OpeningsMade, ValueMade, names_in}
 use Rattle.jib_lower.specs.Openings.{NameHeld}
+use Rattle.jib_lower.specs.Reads.{function_reads, tree_reads}
 
 -- ---- types
 
--- types are nested too deeply, or one of them has no value type, or is too wide, or has one that modules don't have
-pub data TypesLeft (core : CoreModel) (sized : SizedCore) : Type 0 where
-  nested_types : numbered_types core sized ≡ None → TypesLeft core sized
-  no_value_type : {numbered : List Sized} → numbered_types core sized ≡ Some numbered → SomeNoValueType core.types numbered numbered → TypesLeft core sized
-  types_too_wide : {numbered : List Sized} → numbered_types core sized ≡ Some numbered → all_sizes_fit numbered ≡ false → TypesLeft core sized
-  types_not_right : {numbered : List Sized} → numbered_types core sized ≡ Some numbered
-      → each typ_right 0 (map (value_at core.types numbered) numbered) ≡ false → TypesLeft core sized
+-- where these directions have a number of a cycle: types are nested too deeply, or one of them has no value type, or is too wide, or has one that modules don't have
+pub data TypesLeft (core : CoreModel) (sized : SizedCore) (turned : List (Option ℕ)) : Type 0 where
+  nested_types : numbered_types core sized turned ≡ None → TypesLeft core sized turned
+  no_value_type : {numbered : List Sized} → numbered_types core sized turned ≡ Some numbered → SomeNoValueType core.types numbered numbered
+      → TypesLeft core sized turned
+  types_too_wide : {numbered : List Sized} → numbered_types core sized turned ≡ Some numbered → all_sizes_fit numbered ≡ false → TypesLeft core sized turned
+  types_not_right : {numbered : List Sized} → numbered_types core sized turned ≡ Some numbered
+      → each typ_right 0 (map (value_at core.types numbered) numbered) ≡ false → TypesLeft core sized turned
 
 -- ---- functions
 
@@ -91,7 +101,7 @@ pub record SomeEntryLeft (core : CoreModel) (instances : List SizedInstance) : T
 
 -- or no numbers fit the cycles of the model and the calls of its instances
 abbrev pub NoCycles : CoreModel → SizedCore → Type 0
-NoCycles core sized = (numbers : List ℕ) → CyclesFit core.functions numbers → instances_fall numbers sized.instances sized.instances ≡ true → ⊥
+NoCycles core sized = (numbers : List ℕ) → NumbersFit core.functions sized.instances sized.mappings (turns_of core) numbers → ⊥
 
 pub data EntriesLeft (core : CoreModel) (sized : SizedCore) : Type 0 where
   some_entry : SomeEntryLeft core sized.instances → EntriesLeft core sized
@@ -106,7 +116,7 @@ pub record MakingLeft (model : Model) (x : SizedInstance) (cycle : ℕ) : Type 0
   pub head : Head
   pub found : slice_get model.core.now.functions x.instance.function ≡ Some function
   pub plain : IsPlain x signature
-  pub setting : SettingOf model x.bodies x.instance.numbers walk.setting.now
+  pub setting : SettingOf model x.bodies x.instance.numbers (function_reads x.bodies function) walk.setting.now
   pub around : AroundOf model x signature walk.around.now
   pub judged : (judge.setting.now ≡ walk.setting.now) × (judge.around.now ≡ walk.around.now)
   pub signs : SignsOf model signature cycle judge.signs.now
@@ -127,19 +137,71 @@ pub data InstancesLeft (model : Model) : ℕ → List SizedInstance → Type 0 w
   instance_here : {i : ℕ} {x : SizedInstance} {xs : List SizedInstance} → InstanceLeft model i x → InstancesLeft model i (x ∷ xs)
   instance_behind : {i : ℕ} {x : SizedInstance} {xs : List SizedInstance} → InstancesLeft model (i + 1) xs → InstancesLeft model i (x ∷ xs)
 
+-- ---- directions
+
+-- the clauses of a direction aren't lowered here, or give others, or its code hasn't its types, or no function has it
+pub data WayCodeLeft (walk : Walk) (judge : Judge) (head : Head) (m : Direction) (typ : Typ) (clauses : Core) (payload : Sized) : Type 0 where
+  way_not_able : ((name : Naming) → (node_for walk.setting.now walk.around.now name clauses).ok ≡ false)
+      → WayCodeLeft walk judge head m typ clauses payload
+  way_of_others : ((name : Naming) → ends_with payload (fixed_end (node_for walk.setting.now walk.around.now name clauses).piece.ends) ≡ false)
+      → WayCodeLeft walk judge head m typ clauses payload
+  way_not_right : (typed judge m.body).right ≡ false → WayCodeLeft walk judge head m typ clauses payload
+  way_not_coded : CodeLeft walk head head.given.now (λ name. mapping_for walk name true m.place typ clauses)
+      → WayCodeLeft walk judge head m typ clauses payload
+
+pub record WayFunctionLeft (model : Model) (bodies : List (List NodeSizes)) (m : Direction) (x : Mapped) (cycle : ℕ) : Type 0 where
+  pub typ : Typ
+  pub clauses : Core
+  pub body : BodyOf m typ clauses
+  pub walk : Walk
+  pub judge : Judge
+  pub head : Head
+  pub around : WayAround model bodies m x cycle walk judge head
+  pub why : WayCodeLeft walk judge head m typ clauses x.payload
+
+-- what a direction gives isn't an option of what clauses give
+abbrev pub NoBody : Direction → Type 0
+NoBody m = (typ : Typ) (clauses : Core) → BodyOf m typ clauses → ⊥
+
+-- so of a direction; or a type of what calls of it enter has no number, or its function isn't made
+pub data WayByLeft (model : Model) (bodies : List (List NodeSizes)) (number cycle : ℕ) (m : Direction) : Type 0 where
+  no_body : NoBody m → WayByLeft model bodies number cycle m
+  way_types_unknown : types_known model.numbered.now (mapped_by model.core.now.types number m) ≡ false → WayByLeft model bodies number cycle m
+  way_not_made : WayFunctionLeft model bodies m (mapped_by model.core.now.types number m) cycle → WayByLeft model bodies number cycle m
+
+-- so of the d-th one, which has these numbers; or something returns in a direction, or its mapping has no nodes with sizes, or two calls of it have one number
+pub data WayLeft (model : Model) (d number cycle : ℕ) (m : Direction) : Type 0 where
+  some_return : (AllStay model.core.now.directions → ⊥) → WayLeft model d number cycle m
+  no_nodes : slice_get model.sized.now.mappings (d / 2) ≡ None → WayLeft model d number cycle m
+  way_calls_alike : {nodes : List NodeSizes} → slice_get model.sized.now.mappings (d / 2) ≡ Some nodes → leads_alone nodes ≡ false
+      → WayLeft model d number cycle m
+  way_by_left : {nodes : List NodeSizes} → slice_get model.sized.now.mappings (d / 2) ≡ Some nodes → WayByLeft model (nodes ∷ []) number cycle m
+      → WayLeft model d number cycle m
+
+-- one of several, from the d-th on, the first of which that has a number of a cycle has this number; or numbers of cycles aren't said of just these
+pub data WaysLeft (model : Model) : ℕ → ℕ → List Direction → List (Option ℕ) → Type 0 where
+  way_untold : {d number : ℕ} {m : Direction} {ms : List Direction} → WaysLeft model d number (m ∷ ms) []
+  way_nowhere : {d number : ℕ} {turned : List (Option ℕ)} → (turned ≡ [] → ⊥) → WaysLeft model d number [] turned
+  way_here : {d number cycle : ℕ} {m : Direction} {ms : List Direction} {turned : List (Option ℕ)}
+      → WayLeft model d number cycle m → WaysLeft model d number (m ∷ ms) (Some cycle ∷ turned)
+  way_behind : {d number cycle : ℕ} {m : Direction} {ms : List Direction} {turned : List (Option ℕ)}
+      → WaysLeft model (d + 1) (number + 1) ms turned → WaysLeft model d number (m ∷ ms) (Some cycle ∷ turned)
+  way_past : {d number : ℕ} {m : Direction} {ms : List Direction} {turned : List (Option ℕ)}
+      → WaysLeft model (d + 1) number ms turned → WaysLeft model d number (m ∷ ms) (None ∷ turned)
+
 -- ---- openings
 
--- what the code of an opening is made by, where openings of names stand before it
-pub record OpeningWalked (model : Model) (bodies : List (List NodeSizes)) (names : List ℕ) (walk : Walk) : Type 0 where
-  pub setting : SettingOf model bodies [] walk.setting.now
+-- what the code of an opening is made by, where variables are read at these types and openings of names stand before it
+pub record OpeningWalked (model : Model) (bodies : List (List NodeSizes)) (told : List Reads) (names : List ℕ) (walk : Walk) : Type 0 where
+  pub setting : SettingOf model bodies [] told walk.setting.now
   pub instances : walk.around.now.instances.now ≡ model.sized.now.instances
   pub given : walk.around.now.given.now ≡ []
   pub openings : walk.around.now.openings.now ≡ names
   pub directions : walk.around.now.directions.now ≡ []
 
--- what it is judged by before a type of it is known, where openings of these types stand before it
-pub record OpeningJudged (model : Model) (bodies : List (List NodeSizes)) (before names : List ℕ) (judge : Judge) : Type 0 where
-  pub setting : SettingOf model bodies [] judge.setting.now
+-- what it is judged by before a type of it is known, where openings of these types stand before it as well
+pub record OpeningJudged (model : Model) (bodies : List (List NodeSizes)) (told : List Reads) (before names : List ℕ) (judge : Judge) : Type 0 where
+  pub setting : SettingOf model bodies [] told judge.setting.now
   pub instances : judge.around.now.instances.now ≡ model.sized.now.instances
   pub given : judge.around.now.given.now ≡ []
   pub openings : judge.around.now.openings.now ≡ names
@@ -161,12 +223,12 @@ pub record NoOnlyType (judge : Judge) (c : Core) : Type 0 where
 -- so that of an opening
 pub record ValueTyped (model : Model) (o : Opening) (bodies : List (List NodeSizes)) (before names : List ℕ) (typ : Sized) : Type 0 where
   pub judge : Judge
-  pub judged : OpeningJudged model bodies before names judge
+  pub judged : OpeningJudged model bodies (tree_reads bodies o.value) before names judge
   pub only : OnlyType judge o.value typ
 
 pub record NoType (model : Model) (o : Opening) (bodies : List (List NodeSizes)) (before names : List ℕ) : Type 0 where
   pub judge : Judge
-  pub judged : OpeningJudged model bodies before names judge
+  pub judged : OpeningJudged model bodies (tree_reads bodies o.value) before names judge
   pub none : NoOnlyType judge o.value
 
 -- its tree isn't lowered here, or its code hasn't its types, or gives others, or no function has it
@@ -181,7 +243,7 @@ pub record ValueLeft (model : Model) (o : Opening) (bodies : List (List NodeSize
   pub walk : Walk
   pub judge : Judge
   pub head : Head
-  pub around : OpeningAround model bodies before names walk judge head
+  pub around : OpeningAround model bodies (tree_reads bodies o.value) before names walk judge head
   pub result : head.result ≡ type_in model.numbered.now typ
   pub why : ValueCodeLeft walk judge head o typ
 
@@ -191,7 +253,7 @@ pub record NotTaken (walk : Walk) (value : Core) (arm : Arm) (whole : Sized) : T
 
 pub record ArmLeft (model : Model) (o : Opening) (bodies : List (List NodeSizes)) (names : List ℕ) (arm : Arm) (whole : Sized) : Type 0 where
   pub walk : Walk
-  pub walked : OpeningWalked model bodies names walk
+  pub walked : OpeningWalked model bodies (tree_reads bodies o.value) names walk
   pub why : NotTaken walk o.value arm whole
 
 pub data LetValueLeft (model : Model) (o : Opening) (bodies : List (List NodeSizes)) (before names : List ℕ) (arm : Arm) (whole : Sized) : Type 0 where
@@ -210,7 +272,7 @@ pub record NameFunctionLeft (model : Model) (name : LetName) (arm : Arm) (before
   pub walk : Walk
   pub judge : Judge
   pub head : Head
-  pub around : OpeningAround model [] before names walk judge head
+  pub around : OpeningAround model [] [] before names walk judge head
   pub result : head.result ≡ type_in model.numbered.now name.typ.now
   pub why : NameCodeLeft walk judge head name arm
 
@@ -223,12 +285,12 @@ pub record NotHeldBy (judge : Judge) (whole : Sized) (steps : List Step) (text :
 
 pub record HeldAs (model : Model) (whole : Sized) (steps : List Step) (text : List ℕ) (before names : List ℕ) (typ : Sized) : Type 0 where
   pub judge : Judge
-  pub judged : OpeningJudged model [] before names judge
+  pub judged : OpeningJudged model [] [] before names judge
   pub held : HeldBy judge whole steps text typ
 
 pub record NoHeld (model : Model) (whole : Sized) (steps : List Step) (text : List ℕ) (before names : List ℕ) : Type 0 where
   pub judge : Judge
-  pub judged : OpeningJudged model [] before names judge
+  pub judged : OpeningJudged model [] [] before names judge
   pub none : NotHeldBy judge whole steps text
 
 -- the name of a let at a place, over a value of this type, which the k-th opening gives

@@ -1,10 +1,14 @@
 pub mod Errors
+pub mod Entering
 pub mod Types
 pub mod Tabled
 pub mod Cycles
+pub mod Crossings
 pub mod Functions
+pub mod Reads
 pub mod Instances
 pub mod Added
+pub mod Directions
 pub mod Leads
 pub mod Lowered
 pub mod Openings

@@ -1,8 +1,10 @@
--- What the module of a model is: the functions of its instances, and behind them those of its top-level lets and initial values.
+-- What the module of a model is: the functions of its instances, behind them those of directions of mappings, and of top-level lets and initial values.
 use Rattle.std.specs.Prelude.{◌≡◌, ◌≤◌, ℕ, pos, ◌+◌, ◌*◌, Bool, true, false, not, ◌&&◌, ◌||◌, List, [], ◌∷◌, ◌++◌, length, map, Option, Some, None}
 use Rattle.std.specs.Prelude.{slice_get}
 use Rattle.std.specs.Str.{bytes_eq}
 use Rattle.sail_base.specs.declared.place.Place.{Place}
+use Rattle.sail_core.specs.Fragments.{model_in}
+use Rattle.sail_core.specs.declared.fragments.Fragment.TheVariants as G
 use Rattle.sail_core.specs.declared.patterns.Arm.{Arm}
 use Rattle.sail_core.specs.declared.patterns.Arm.TheVariants.{Flat}
 use Rattle.sail_core.specs.declared.patterns.Step.{Step}
@@ -26,11 +28,12 @@ use Rattle.jib.specs.Typing.{same}
 use Rattle.jib.specs.Valid.{typ_right}
 use Rattle.lowered_types.specs.Table.{all_known, is_known, type_in}
 use Rattle.lowered_pieces.specs.declared.coding.Coding.{Coding}
-use Rattle.lowered_pieces.specs.Arms.{Hand, arm_hand, arm_lowered, held_at, steps_in, word_width}
+use Rattle.lowered_pieces.specs.Arms.{Hand, arm_fits, arm_hand, held_at, steps_in, word_width}
 use Rattle.lowered_pieces.specs.Mapped.{ends_with, fixed_end}
 use Rattle.lowered_pieces.specs.Places.{Naming}
+use Rattle.lowered_steps.specs.declared.setting.Reads.{Reads}
 use Rattle.lowered_steps.specs.declared.setting.Setting.{Setting}
-use Rattle.lowered_steps.specs.Setting.{kit_for, size_for}
+use Rattle.lowered_steps.specs.Setting.{kit_for, reads_at, size_for}
 use Rattle.lowered_laws.specs.Opened.{held_typ}
 use Rattle.lowered_ends.specs.declared.around.Around.{Around}
 use Rattle.lowered_ends.specs.Around.{node_for}
@@ -41,20 +44,26 @@ use Rattle.lowered_functions.specs.Made.{CodeMade, name_for, value_for}
 use Rattle.lowered_functions.specs.declared.openings.LetName.{LetName}
 use Rattle.lowered_typed.specs.declared.signs.Judge.{Judge}
 use Rattle.lowered_typed.specs.Judging.{arm_typed, typed}
+use Rattle.mappings.specs.Rewriting.{without_mappings}
 use Rattle.match_rewrite.specs.Rewriting.{with_flat_arms}
 use Rattle.tabled_models.specs.Cores.{core_tabled}
 use Rattle.jib_lower.specs.declared.functions.Head.{Head}
 use Rattle.jib_lower.specs.declared.instances.Model.{Model}
 use Rattle.jib_lower.specs.declared.openings.Opened.{Opened}
+use Rattle.jib_lower.specs.Directions.{WaysMade}
+use Rattle.jib_lower.specs.Entering.{mapped_from}
 use Rattle.jib_lower.specs.Functions.{FunctionMade}
 use Rattle.jib_lower.specs.Instances.{CalledAre, InstancesMade, SettingOf, leads_alone}
-use Rattle.jib_lower.specs.Types.{all_in_bodies, all_in_instances, all_in_registers, all_small, exception_typ}
+use Rattle.jib_lower.specs.Reads.{tree_reads}
+use Rattle.jib_lower.specs.Types.{all_in_bodies, all_in_instances, all_in_registers, all_in_ways, all_small, exception_typ}
 
 -- ---- openings
 
--- what is around the function of an opening, where openings of these types stand before it and these are of names: pure, and over no arguments
-pub record OpeningAround (model : Model) (bodies : List (List NodeSizes)) (before names : List ℕ) (walk : Walk) (judge : Judge) (head : Head) : Type 0 where
-  pub setting : SettingOf model bodies [] walk.setting.now
+-- what is around the function of an opening, where variables are read at these types, openings of these types stand before it and these are of names: pure, and
+-- over no arguments
+pub record OpeningAround (model : Model) (bodies : List (List NodeSizes)) (told : List Reads) (before names : List ℕ) (walk : Walk) (judge : Judge)
+    (head : Head) : Type 0 where
+  pub setting : SettingOf model bodies [] told walk.setting.now
   pub instances : walk.around.now.instances.now ≡ model.sized.now.instances
   pub given : walk.around.now.given.now ≡ []
   pub openings : walk.around.now.openings.now ≡ names
@@ -76,7 +85,7 @@ pub record ValueMade (model : Model) (o : Opening) (bodies : List (List NodeSize
   pub judge : Judge
   pub head : Head
   pub coding : Coding
-  pub around : OpeningAround model bodies before names walk judge head
+  pub around : OpeningAround model bodies (tree_reads bodies o.value) before names walk judge head
   pub able : (name : Naming) → (node_for walk.setting.now walk.around.now name o.value).ok ≡ true
   pub right : (typed judge o.value).right ≡ true
   pub typ : Sized
@@ -114,7 +123,7 @@ fails_seen (s ∷ ss) = has_names (names_in (s ∷ ss))
 
 -- the arm of a let over a value that has one type: it is lowered here, binds each name once, and a name where it can fail
 pub record ArmTaken (setting : Setting) (around : Around) (value : Core) (arm : Arm) (whole : Sized) : Type 0 where
-  pub lowered : arm_lowered (size_for setting) arm ≡ true
+  pub lowered : arm_fits (size_for setting) (reads_at setting.reads.now) arm ≡ true
   pub differ : names_differ (names_in (steps_in arm)) ≡ true
   pub seen : fails_seen (steps_in arm) ≡ true
   pub ends : (name : Naming) → ends_with whole (fixed_end (node_for setting around name value).piece.ends) ≡ true
@@ -127,7 +136,7 @@ pub record NameMade (model : Model) (place : Place) (k : ℕ) (whole : Sized) (s
     pub head : Head
     pub coding : Coding
     pub name : LetName
-    pub around : OpeningAround model [] before names walk judge head
+    pub around : OpeningAround model [] [] before names walk judge head
     pub placed : name.place ≡ place
     pub opening : name.opening ≡ k
     pub whole_is : name.whole.now ≡ whole
@@ -216,18 +225,25 @@ pub record FlatFrom (core : CoreModel) (sized : SizedCore) (m : Module) : Type 0
   pub is : ModelOf core sized table m model
   pub bare : Model
   pub bare_is : ModelOf core sized table m bare
-  pub called : CalledAre core sized table.numbered model.called.now
-  -- of instances, and of openings
+  -- what calls enter, and what calls of directions do
+  pub called : CalledAre core sized table.numbered model.called.now model.turned.now
+  pub entered : model.directions.now ≡ mapped_from core.types (2 * length sized.instances) core.directions model.turned.now
+  pub in_ways : all_in_ways table.numbered sized.mappings 0 core.directions model.turned.now ≡ true
+  -- of instances, of directions, and of openings
   pub functions : List Made
   pub instances : InstancesMade model functions
+  pub ways : List Made
+  pub directions : WaysMade model 0 (2 * length sized.instances) core.directions model.turned.now ways
   pub opened : List Made
   pub of_registers : List (Option ℕ)
   pub openings : OpeningsMade bare 0 core.openings [] [] opened of_registers model.lets.now model.openings.now
-  pub all : m.functions ≡ functions ++ opened
-  pub opens : m.openings ≡ opened_from (2 * length sized.instances) of_registers
+  pub all : m.functions ≡ functions ++ (ways ++ opened)
+  pub opens : m.openings ≡ opened_from (2 * length sized.instances + length ways) of_registers
 
--- the module of a model as it is written, and sizes of its nodes: that of the model with flat arms, where nodes have the same numbers
+-- the module of a model as it is written, and sizes of its nodes: that of the model without mappings and with flat arms, where nodes have the same numbers
 pub record LoweredFrom (written : CoreModel) (sized : SizedCore) (m : Module) : Type 0 where
   -- each case goes by the numbers that are noted before its value is there
   pub tabled : core_tabled false written ≡ true
-  pub flat : FlatFrom (with_flat_arms written) sized m
+  -- nothing in it asks a direction for an option
+  pub resolved : model_in G.Resolved written ≡ true
+  pub flat : FlatFrom (with_flat_arms (without_mappings written)) sized m

@@ -1,5 +1,5 @@
 -- What the code of a model is made by, beside the model and what its openings give.
-use Rattle.std.specs.Prelude.{◌≡◌, ◌*◌, List, length}
+use Rattle.std.specs.Prelude.{◌≡◌, ◌+◌, ◌*◌, List, length}
 use Rattle.sail_core.specs.declared.model.CoreModel.{CoreModel}
 use Rattle.size_values.specs.declared.sized.Sized.TheVariants as S
 use Rattle.sized_nodes.specs.declared.trees.SizedCore.{SizedCore}
@@ -8,20 +8,26 @@ use Rattle.lowered_tables.specs.declared.tables.Table.{Table}
 use Rattle.jib_lower.specs.declared.instances.Model.{Model}
 use Rattle.jib_lower.specs.declared.lowering.Parts.{Parts}
 use Rattle.jib_lower.specs.declared.openings.Opened.{Opened}
-use Rattle.jib_lower.specs.Instances.{CalledAre, InstancesMade}
+use Rattle.jib_lower.specs.Crossings.{made_many}
+use Rattle.jib_lower.specs.Directions.{FunctionsMade}
+use Rattle.jib_lower.specs.Entering.{mapped_from}
+use Rattle.jib_lower.specs.Instances.{CalledAre}
 use Rattle.jib_lower.specs.Lowered.{OpenedFrom}
 use Rattle.jib_lower.specs.Tabled.{ShellOf, TableOf}
 use Rattle.jib_lower.specs.Types.{exception_typ}
 
 pub record PartsOf (core : CoreModel) (sized : SizedCore) (parts : Parts) : Type 0 where
   pub table : Table
-  pub is : TableOf core sized table
+  pub is : TableOf core sized parts.turned table
   pub numbered : parts.numbered ≡ table.numbered
   pub shell : ShellOf core table.numbered table.types parts.shell
   pub exception : parts.exception ≡ exception_typ core.exception
   pub nothing : parts.nothing ≡ S.Unit
   pub truths : parts.truths ≡ S.Bool
-  pub called : CalledAre core sized table.numbered parts.called
+  pub called : CalledAre core sized table.numbered parts.called parts.turned
+  pub before : parts.before ≡ 2 * length sized.instances
+  pub entered : parts.directions ≡ mapped_from core.types parts.before core.directions parts.turned
+  pub opened_at : parts.opened_at ≡ parts.before + made_many parts.turned
 
 -- a model of these parts
 pub record ModelBy (core : CoreModel) (sized : SizedCore) (parts : Parts) (model : Model) : Type 0 where
@@ -33,17 +39,19 @@ pub record ModelBy (core : CoreModel) (sized : SizedCore) (parts : Parts) (model
   pub nothing : model.nothing.now ≡ parts.nothing
   pub truths : model.truths.now ≡ parts.truths
   pub called : model.called.now ≡ parts.called
+  pub directions : model.directions.now ≡ parts.directions
+  pub turned : model.turned.now ≡ parts.turned
 
--- what is made of its openings, behind the functions of its instances
+-- what is made of its openings, behind the functions of its instances and of directions
 pub record OpenedOf (core : CoreModel) (sized : SizedCore) (parts : Parts) (opened : Opened) : Type 0 where
   pub bare : Model
   pub is : ModelBy core sized parts bare
-  pub made : OpenedFrom bare (2 * length sized.instances) opened
+  pub made : OpenedFrom bare parts.opened_at opened
 
--- what is made of its instances, which may read these openings
+-- what is made of its instances and of directions, which may read these openings
 pub record FunctionsOf (core : CoreModel) (sized : SizedCore) (parts : Parts) (opened : Opened) (functions : List Made) : Type 0 where
   pub model : Model
   pub is : ModelBy core sized parts model
   pub lets : model.lets.now ≡ opened.types
   pub names : model.openings.now ≡ opened.names
-  pub made : InstancesMade model functions
+  pub made : FunctionsMade model parts.before functions

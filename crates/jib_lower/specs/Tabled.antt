@@ -1,5 +1,5 @@
 -- The table of a model's types, and its module without functions.
-use Rattle.std.specs.Prelude.{◌≡◌, ◌≤◌, ℕ, pos, true, List, [], ◌∷◌, map}
+use Rattle.std.specs.Prelude.{◌≡◌, ◌≤◌, ℕ, pos, true, List, [], ◌∷◌, map, Option}
 use Rattle.sail_core.specs.declared.model.CoreModel.{CoreModel}
 use Rattle.size_values.specs.declared.sized.Sized.{Sized, out-Sized}
 use Rattle.size_values.specs.declared.sized.Sized.TheVariants as S
@@ -13,12 +13,14 @@ use Rattle.lowered_types.specs.Table.{all_known, is_known, type_in}
 use Rattle.lowered_pieces.specs.Arms.{word_width}
 use Rattle.lowered_tables.specs.Built.{Stands}
 use Rattle.lowered_tables.specs.declared.tables.Table.{Table}
-use Rattle.jib_lower.specs.Types.{all_in_bodies, all_in_instances, all_in_registers, all_small, exception_typ}
+use Rattle.jib_lower.specs.Types.{all_in_bodies, all_in_instances, all_in_registers, all_in_ways, all_small, exception_typ}
 
-pub record TableOf (core : CoreModel) (sized : SizedCore) (table : Table) : Type 0 where
+-- where these directions have a number of a cycle
+pub record TableOf (core : CoreModel) (sized : SizedCore) (turned : List (Option ℕ)) (table : Table) : Type 0 where
   pub stands : Stands core.types table
   pub in_instances : all_in_instances table.numbered sized.instances ≡ true
   pub in_openings : all_in_bodies table.numbered sized.openings ≡ true
+  pub in_ways : all_in_ways table.numbered sized.mappings 0 core.directions turned ≡ true
   pub in_registers : all_in_registers core.types table.numbered core.registers ≡ true
   pub small : all_small table.numbered ≡ true
   pub basic : all_known table.numbered (S.Unit ∷ S.Bool ∷ S.Int ∷ exception_typ core.exception ∷ []) ≡ true

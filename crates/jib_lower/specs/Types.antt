@@ -1,5 +1,5 @@
 -- The types that get a number: those of all that nodes make and take, of what comes in and goes out, and of registers.
-use Rattle.std.specs.Prelude.{◌≡◌, ◌≤◌, ℕ, zero, suc, pos, Bool, true, ◌&&◌, List, [], ◌∷◌, ◌++◌, Option, Some, None, slice_get}
+use Rattle.std.specs.Prelude.{◌≡◌, ◌≤◌, ℕ, zero, suc, pos, ◌+◌, ◌/◌, Bool, true, ◌&&◌, List, [], ◌∷◌, ◌++◌, Option, Some, None, slice_get}
 use Rattle.sail_types.specs.declared.table.Types.{Types}
 use Rattle.model_state.specs.declared.state.Register.{Register}
 use Rattle.size_values.specs.declared.sized.Sized.{Sized, out-Sized}
@@ -13,11 +13,14 @@ use Rattle.sized_nodes.specs.declared.trees.NodeSizes.TheVariants as N
 use Rattle.sized_nodes.specs.declared.trees.SizedInstance.{SizedInstance}
 use Rattle.sized_nodes.specs.declared.trees.SizedCore.{SizedCore}
 use Rattle.sail_core.specs.declared.model.CoreModel.{CoreModel}
+use Rattle.sail_core.specs.declared.model.Direction.{Direction}
+use Rattle.lowered_ends.specs.declared.around.Mapped.{Mapped}
 use Rattle.checked_meaning.specs.Items.{fixed_typ}
 use Rattle.lowered_types.specs.Table.{all_known, is_known}
 use Rattle.lowered_pieces.specs.Arms.{word_width}
 use Rattle.lowered_validity.specs.Laws.{sizes_small}
 use Rattle.lowered_tables.specs.Built.{sizes_fit, with_numbers}
+use Rattle.jib_lower.specs.Entering.{mapped_by}
 
 abbrev pub exception_typ : Option ℕ → Sized
 exception_typ (Some u) = S.Named u [] []
@@ -71,6 +74,17 @@ abbrev pub all_in_registers : Types → List Sized → List Register → Bool
 all_in_registers types ss [] = true
 all_in_registers types ss (r ∷ rs) = is_known ss (fixed_typ types r.typ) && all_in_registers types ss rs
 
+abbrev pub in_mapping : List Sized → Option (List NodeSizes) → Bool
+in_mapping ss None = true
+in_mapping ss (Some nodes) = all_in_nodes ss nodes
+
+-- the types of the mappings of directions from the d-th on that have a number of a cycle; a mapping has two
+abbrev pub all_in_ways : List Sized → List (List NodeSizes) → ℕ → List Direction → List (Option ℕ) → Bool
+all_in_ways ss mappings d [] turned = true
+all_in_ways ss mappings d (m ∷ ms) [] = true
+all_in_ways ss mappings d (m ∷ ms) (None ∷ turned) = all_in_ways ss mappings (d + 1) ms turned
+all_in_ways ss mappings d (m ∷ ms) (Some cycle ∷ turned) = in_mapping ss (slice_get mappings (d / 2)) && all_in_ways ss mappings (d + 1) ms turned
+
 -- ---- the types of a model, in the order in which they get numbers
 
 abbrev pub types_in_cases : List Case → List Sized
@@ -115,11 +129,35 @@ word_types (suc n) = S.Bits (pos n) ∷ word_types n
 abbrev pub basic_types : Option ℕ → List Sized
 basic_types exception = S.Unit ∷ S.Bool ∷ S.Int ∷ exception_typ exception ∷ []
 
+abbrev pub types_in_mapped : Mapped → List Sized
+types_in_mapped x = x.takes ∷ x.payload ∷ x.gives ∷ []
+
+abbrev pub types_in_mapping : Option (List NodeSizes) → List Sized
+types_in_mapping None = []
+types_in_mapping (Some nodes) = types_in_nodes nodes
+
+-- of a direction: those of what calls of it enter, and of the mapping at this place
+abbrev pub types_in_way : Types → List (List NodeSizes) → ℕ → Direction → List Sized
+types_in_way types mappings at m = types_in_mapped (mapped_by types 0 m) ++ types_in_mapping (slice_get mappings at)
+
+-- of directions from the d-th on that have a number of a cycle
+abbrev pub types_in_ways : Types → List (List NodeSizes) → ℕ → List Direction → List (Option ℕ) → List Sized
+types_in_ways types mappings d [] turned = []
+types_in_ways types mappings d (m ∷ ms) [] = []
+types_in_ways types mappings d (m ∷ ms) (None ∷ turned) = types_in_ways types mappings (d + 1) ms turned
+types_in_ways types mappings d (m ∷ ms) (Some cycle ∷ turned) =
+    types_in_way types mappings (d / 2) m ++ types_in_ways types mappings (d + 1) ms turned
+
 abbrev pub types_in_model : CoreModel → SizedCore → List Sized
 types_in_model core sized =
     basic_types core.exception ++ (word_types 129 ++ (types_in_registers core.types core.registers
     ++ (types_in_instances sized.instances ++ types_in_bodies sized.openings)))
 
--- the types that have a number in a model, in order: nothing where types are nested too deeply
-abbrev pub numbered_types : CoreModel → SizedCore → Option (List Sized)
-numbered_types core sized = with_numbers core.types (S.Never ∷ []) (types_in_model core sized)
+-- those of a model beside its directions that have a number, in order: nothing where types are nested too deeply
+abbrev pub listed_types : CoreModel → SizedCore → Option (List Sized)
+listed_types core sized = with_numbers core.types (S.Never ∷ []) (types_in_model core sized)
+
+-- the types that have a number in a model, in order, where these directions have a number of a cycle
+abbrev pub numbered_types : CoreModel → SizedCore → List (Option ℕ) → Option (List Sized)
+numbered_types core sized turned =
+    with_numbers core.types (S.Never ∷ []) (types_in_model core sized ++ types_in_ways core.types sized.mappings 0 core.directions turned)

@@ -3,6 +3,7 @@ ghost use Rattle.std.specs.Prelude.{◌≡◌, ℕ, ◌<◌, ◌≤◌, List, le
 ghost use Rattle.jib_lower.specs.Cycles as spec;
 ghost use Rattle.jib_lower.specs.Cycles.{AllEven, CyclesFit, EvenBehind, FitIfAny, GraphOf, Joined, NumbersOf};
 
+use crate::turns::join_turns;
 use call_graph::{Cycles, Graph, find_cycles};
 use lowered_steps::as_number;
 use sail_base::Items;
@@ -59,7 +60,7 @@ fn join_leads(
 }
 
 /// So the calls of nodes.
-fn join_nodes(
+pub fn join_nodes(
     graph: &mut Graph,
     instances: &[SizedInstance],
     caller: usize,
@@ -169,17 +170,20 @@ fn empty_graph(alloc: Global, functions: &[Function]) -> Result<Graph, AllocErro
     Ok(graph)
 }
 
-/// The graph of a model's functions by calls, with edges both ways between those of one cycle of the model. It fails where memory is wanting.
+/// The graph of a model's functions by calls, also through directions to which these lead, with edges both ways between those of one cycle of the model. It fails where memory is wanting.
 fn graph_of(
     alloc: Global,
     functions: &[Function],
     instances: &[SizedInstance],
+    mappings: &[Items<NodeSizes>],
+    turns: &[Items<u32>],
 ) -> Result<Graph, AllocError>
     requires there { spec.all_there (length functions.now) instances.now ≡ true }
-    ensures { IfOk result (GraphOf functions.now instances.now) }
+    ensures { IfOk result (GraphOf functions.now instances.now mappings.now turns.now) }
 {
     let mut graph = empty_graph(alloc, functions)?;
     join_callers(&mut graph, instances, instances)?;
+    join_turns(&mut graph, instances, mappings, turns, instances)?;
     add_rings(&mut graph, functions)?;
     Ok(graph)
 }
@@ -200,11 +204,13 @@ pub fn cycle_numbers(
     alloc: Global,
     functions: &[Function],
     instances: &[SizedInstance],
+    mappings: &[Items<NodeSizes>],
+    turns: &[Items<u32>],
 ) -> Result<Items<u32>, AllocError>
     requires there { spec.all_there (length functions.now) instances.now ≡ true }
-    ensures { IfOk result (FitIfAny functions.now instances.now) }
+    ensures { IfOk result (FitIfAny functions.now instances.now mappings.now turns.now) }
 {
-    let graph = graph_of(alloc, functions, instances)?;
+    let graph = graph_of(alloc, functions, instances, mappings, turns)?;
     let cycles = find_cycles(alloc, &graph)?;
     let numbers = numbers_of(alloc, &cycles)?;
     Ok(numbers)
@@ -318,7 +324,7 @@ pub fn are_fitting(functions: &[Function], numbers: &[u32]) -> bool
 }
 
 /// The number of the function of an instance; 0 where there is no such instance.
-fn cycle_at(numbers: &[u32], instances: &[SizedInstance], place: usize) -> u32
+pub fn cycle_at(numbers: &[u32], instances: &[SizedInstance], place: usize) -> u32
     ensures { result ≡ spec.cycle_at numbers.now instances.now place }
 {
     match instances.get(place) {
@@ -340,7 +346,12 @@ fn leads_fall(numbers: &[u32], instances: &[SizedInstance], own: u32, leads: &[L
 }
 
 /// Whether those of nodes do.
-fn nodes_fall(numbers: &[u32], instances: &[SizedInstance], own: u32, nodes: &[NodeSizes]) -> bool
+pub fn nodes_fall(
+    numbers: &[u32],
+    instances: &[SizedInstance],
+    own: u32,
+    nodes: &[NodeSizes],
+) -> bool
     ensures { result ≡ spec.nodes_fall numbers.now instances.now own nodes.now }
 {
     for sizes in nodes {

@@ -14,6 +14,8 @@ pub enum LowerError {
     Table(TableError),
     /// The tables of the model aren't whole where a case goes by the numbers alone that are noted before its value is there.
     NotTabled,
+    /// Something in the model asks a direction of a mapping for an option.
+    NotResolved,
     /// What stands at this place has a tree that isn't lowered here: by its kinds, by parameters or results of several types, or since a case of it doesn't
     /// fit.
     NotLowered(Place),

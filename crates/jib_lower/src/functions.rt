@@ -179,7 +179,7 @@ fn put_both(
 }
 
 /// Both functions of an instance. It fails where a tree isn't lowered here or a case of it doesn't fit, and where memory is wanting.
-pub fn make_both(
+fn make_both(
     walk: &Walk<'_>,
     judge: &Judge<'_>,
     function: &Function,
@@ -201,4 +201,22 @@ pub fn make_both(
     } else {
         Err(LowerError::NotLowered(function.place))
     }
+}
+
+/// Both functions of an instance, made by what they are judged by. It fails where a tree isn't lowered here or a case of it doesn't fit, and where memory is
+/// wanting.
+pub fn make_judged(
+    judge: &Judge<'_>,
+    function: &Function,
+    head: &Head<'_>,
+) -> Result<Both, LowerError>
+    ensures made { IfOk result (λ both. InstanceMade (spec.walk_by judge.now) judge.now function.now head.now both.called both.event) }
+    ensures left { IfErr result (OrMemory (BothLeft (spec.walk_by judge.now) judge.now function.now head.now)) }
+{
+    let walk = Walk {
+        alloc: judge.alloc,
+        setting: judge.setting,
+        around: judge.around,
+    };
+    make_both(&walk, judge, function, head)
 }

@@ -1,20 +1,21 @@
 //! The functions of all instances of a model.
-ghost use Rattle.std.specs.Prelude.{◌≡◌, ◌+◌, ◌++◌, None, Some, length, map, slice_get, true, IfErr, IfOk, OnOk};
+ghost use Rattle.std.specs.Prelude.{◌≡◌, ◌+◌, [], ◌++◌, None, Some, map, slice_get, IfErr, IfOk, OnOk};
 ghost use Rattle.lowered_types.specs.Table.{type_in};
 ghost use Rattle.lowered_pieces.specs.Nodes.{told_as};
 ghost use Rattle.jib_lower.specs.Instances.{CalledAre, InstancesMade, IsPlain, SettingOf, number_among};
 ghost use Rattle.jib_lower.specs.Added as added;
-ghost use Rattle.jib_lower.specs.Cycles.{all_there};
+ghost use Rattle.jib_lower.specs.Crossings.{turned_by, turns_of};
+ghost use Rattle.jib_lower.specs.Cycles.{NumbersFit};
 ghost use Rattle.jib_lower.specs.Errors.{OrMemory};
 ghost use Rattle.jib_lower.specs.Left.{EntriesLeft, EntryLeft, InstanceLeft, InstancesLeft, NotPlain, PairLeft, SomeEntryLeft};
 
-use crate::cycles::{are_fitting, are_there, cycle_numbers, instances_fall, number_at};
+use crate::cycles::number_at;
 use crate::error::LowerError;
-use crate::functions::{Both, Head, make_both};
+use crate::functions::{Both, Head, make_judged};
 use crate::plain::{are_plain_told, is_plain_told, told_type, told_types};
+use crate::reads::function_reads;
 use jib::{Function as Made, Module};
-use lowered_ends::Around;
-use lowered_functions::Walk;
+use lowered_ends::{Around, Mapped};
 use lowered_steps::{Setting, as_number, find};
 use lowered_typed::{Called, Judge, Signs};
 use sail_base::{Items, Place};
@@ -42,6 +43,10 @@ pub struct Model<'a> {
     pub truths: &'a Sized,
     /// What calls enter, by the places of instances.
     pub called: &'a [Called],
+    /// What calls of directions of mappings enter.
+    pub directions: &'a [Mapped],
+    /// The numbers of the cycles of directions, where they are made.
+    pub turned: &'a [Option<u32>],
     /// The types of the openings that functions may read.
     pub lets: &'a [u32],
     /// For each name of a top-level let the opening that gives its value.
@@ -57,13 +62,13 @@ pub fn number_of(numbered: &[Sized], typ: &Sized) -> Result<u32, AllocError>
     Ok(number)
 }
 
-/// What the code of a function is made by, whose trees have these nodes. It fails where there are 2^32 types or more.
+/// What the code of a function is made by, whose trees have these nodes and read no variables. It fails where there are 2^32 types or more.
 pub fn setting_of<'a>(
     model: &Model<'a>,
     bodies: &'a [Items<NodeSizes>],
     numbers: &'a [Option<i128>],
 ) -> Result<Setting<'a>, AllocError>
-    ensures { IfOk result (λ setting. SettingOf model.now bodies.now numbers.now setting) }
+    ensures { IfOk result (λ setting. SettingOf model.now bodies.now numbers.now [] setting) }
 {
     let unit = number_of(model.numbered, model.nothing)?;
     let truth = number_of(model.numbered, model.truths)?;
@@ -80,6 +85,7 @@ pub fn setting_of<'a>(
         truths: model.truths,
         bodies,
         numbers,
+        reads: &[],
     })
 }
 
@@ -174,52 +180,25 @@ fn push_called(
     }
 }
 
-/// What calls enter, by the places of instances, the functions of which are there. It fails where a signature is not plain, and where memory is wanting.
-fn called_there(
-    alloc: Global,
-    core: &CoreModel,
-    sized: &SizedCore,
-    numbered: &[Sized],
-) -> Result<Items<Called>, LowerError>
-    requires there { all_there (length core.now.functions) sized.now.instances ≡ true }
-    ensures called { IfOk result (λ called. CalledAre core.now sized.now numbered.now called) }
-    ensures left { IfErr result (OrMemory (EntriesLeft core.now sized.now)) }
-{
-    let instances = sized.instances.as_slice();
-    let functions = core.functions.as_slice();
-    let made = cycle_numbers(alloc, functions, instances)?;
-    let cycles = made.as_slice();
-    let fit = are_fitting(functions, cycles);
-    let fall = instances_fall(cycles, instances, instances);
-    if fit {
-        if fall {
-            let mut called = Items::new(alloc);
-            push_called(alloc, core, numbered, cycles, instances, &mut called)?;
-            Ok(called)
-        } else {
-            Err(LowerError::NotThere)
-        }
-    } else {
-        Err(LowerError::NotThere)
-    }
-}
-
-/// What calls enter, by the places of instances. It fails where the function of one isn't there, or its signature is not plain, and where memory is wanting.
+/// What calls enter, by the places of instances, where functions and directions have these numbers of cycles. It fails where a signature is not plain, and
+/// where memory is wanting.
 pub fn all_called(
     alloc: Global,
     core: &CoreModel,
     sized: &SizedCore,
     numbered: &[Sized],
+    cycles: &[u32],
+    turned: &[Option<u32>],
 ) -> Result<Items<Called>, LowerError>
-    ensures called { IfOk result (λ called. CalledAre core.now sized.now numbered.now called) }
+    requires fit { NumbersFit core.now.functions sized.now.instances sized.now.mappings (turns_of core.now) cycles.now }
+    requires turned { turned.now ≡ turned_by core.now sized.now cycles.now }
+    ensures called { IfOk result (λ called. CalledAre core.now sized.now numbered.now called turned.now) }
     ensures left { IfErr result (OrMemory (EntriesLeft core.now sized.now)) }
 {
-    let there = are_there(core.functions.len(), sized.instances.as_slice());
-    if there {
-        called_there(alloc, core, sized, numbered)
-    } else {
-        Err(LowerError::NotThere)
-    }
+    let instances = sized.instances.as_slice();
+    let mut called = Items::new(alloc);
+    push_called(alloc, core, numbered, cycles, instances, &mut called)?;
+    Ok(called)
 }
 
 /// Both functions of an instance, the calls of which have this number of a cycle. It fails where a tree isn't lowered here or doesn't fit, and where memory
@@ -240,22 +219,23 @@ fn make_instance<'x>(
     let given = told.as_slice();
     let bodies = found.bodies.as_slice();
     let numbers = found.instance.numbers.as_slice();
-    let setting = setting_of(model, bodies, numbers)?;
+    let plain = setting_of(model, bodies, numbers)?;
+    let reads = function_reads(alloc, &plain, function)?;
+    let gives = told_type(alloc, &signature.result)?;
+    let result = number_of(model.numbered, &gives)?;
+    let lets = as_number(model.lets.len())?;
+    let listed = reads.as_slice();
+    let setting = Setting {
+        reads: listed,
+        ..plain
+    };
     let instances = model.sized.instances.as_slice();
     let around = Around {
         instances,
         given,
         openings: model.openings,
-        directions: &[],
+        directions: model.directions,
     };
-    let walk = Walk {
-        alloc,
-        setting: &setting,
-        around: &around,
-    };
-    let gives = told_type(alloc, &signature.result)?;
-    let result = number_of(model.numbered, &gives)?;
-    let lets = as_number(model.lets.len())?;
     let signs = Signs {
         shell: model.shell,
         lets: model.lets,
@@ -263,7 +243,7 @@ fn make_instance<'x>(
         is_pure: false,
         cycle,
         called: model.called,
-        turned: &[],
+        turned: model.turned,
     };
     let judge = Judge {
         alloc,
@@ -278,7 +258,7 @@ fn make_instance<'x>(
         lets,
         is_pure: false,
     };
-    make_both(&walk, &judge, function, &head)
+    make_judged(&judge, function, &head)
 }
 
 /// Both functions of the instance at a place. It fails where a tree isn't lowered here or doesn't fit, and where memory is wanting.

@@ -9,7 +9,7 @@ use sail_base::Items;
 use sized_nodes::{NodeSizes, SizedInstance};
 
 /// Whether both hold.
-fn both(one: bool, other: bool) -> bool
+pub fn both(one: bool, other: bool) -> bool
     ensures { result ≡ (one && other) }
 {
     one && other

@@ -1,12 +1,16 @@
 //! Lowering: the module of flat code of a model with constant sizes.
 //!
-//! `specs/Lowered` tells what is made of a model, once its arms are flat: of the i-th instance the function 2i, which calls enter, and the function
-//! 2i + 1, which events enter; behind them the functions of top-level lets and initial values; each with the code of the definition (`lowered_pieces`)
+//! `specs/Lowered` tells what is made of a model, once it has no mappings and its arms are flat: of the i-th instance the function 2i, which calls enter, and
+//! the function 2i + 1, which events enter; behind them the functions of directions that are called, and those of top-level lets and initial values; each with the code of the definition (`lowered_pieces`)
 //! under the numbering of its own slots.
 #![tactic(auto)]
 
+mod crossings;
 mod cycles;
+mod directions;
+mod entering;
 mod error;
+mod fitting;
 mod functions;
 mod instances;
 mod laws;
@@ -14,7 +18,11 @@ mod leads;
 mod lowering;
 mod openings;
 mod plain;
+mod reads;
+mod turned;
+mod turns;
 mod types;
+mod way_types;
 
 pub use error::LowerError;
 pub use laws::modules_are_valid;

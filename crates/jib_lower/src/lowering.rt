@@ -1,6 +1,10 @@
 //! The module of a model.
-ghost use Rattle.std.specs.Prelude.{◌≡◌, ◌++◌, Some, map, false, true, IfErr, IfOk, OnOk};
+ghost use Rattle.std.specs.Prelude.{◌≡◌, ◌*◌, ◌++◌, Some, length, map, false, true, IfErr, IfOk, OnOk};
+ghost use Rattle.mappings.specs.Rewriting.{without_mappings};
 ghost use Rattle.match_rewrite.specs.Rewriting.{with_flat_arms};
+ghost use Rattle.jib_lower.specs.Crossings.{turned_by as spec_turned, turns_of};
+ghost use Rattle.jib_lower.specs.Cycles.{NumbersFit};
+ghost use Rattle.jib_lower.specs.Directions.{FunctionsMade};
 ghost use Rattle.jib_lower.specs.Leads.{AllAlone, EachAlone};
 ghost use Rattle.checked_meaning.specs.Items.{fixed_typ};
 ghost use Rattle.lowered_types.specs.Table.{type_in};
@@ -9,40 +13,52 @@ ghost use Rattle.jib.specs.Valid.{typ_right};
 ghost use Rattle.lowered_tables.specs.Built.{value_at};
 ghost use Rattle.jib_lower.specs.Errors.{OrMemory};
 ghost use Rattle.jib_lower.specs.Left.{TypesLeft};
-ghost use Rattle.jib_lower.specs.Lowerable.{FlatLeft, FunctionsLeft, NotLowerable, OpenedLeft, PartsLeft};
+ghost use Rattle.jib_lower.specs.Lowerable.{FlatLeft, FunctionsLeft, NotLowerable, OpenedLeft, PartsLeft, SomeLeft};
 ghost use Rattle.jib_lower.specs.Types.{numbered_types};
 ghost use Rattle.jib_lower.specs.Lowered.{FlatFrom, LoweredFrom};
 ghost use Rattle.jib_lower.specs.Parts.{FunctionsOf, ModelBy, OpenedOf, PartsOf};
 ghost use Rattle.jib_lower.specs.Tabled.{ShellOf, TableOf};
 
+use crate::directions::make_ways;
+use crate::entering::all_mapped;
 use crate::error::LowerError;
+use crate::fitting::fitting_numbers;
 use crate::instances::{Model, all_called, make_instances, number_of};
 use crate::laws::modules_are_valid;
 use crate::leads::{each_alone, instances_alone};
 use crate::openings::{Opened, make_openings};
+use crate::turned::{made_many, turned_by};
 use crate::types::{are_small, exception_type, number_types, register_type};
 use jib::{Checked, Function as Made, Module, ValueType, are_typs};
+use lowered_ends::Mapped;
 use lowered_steps::{as_number, further};
 use lowered_tables::{Table, TableError};
 use lowered_typed::Called;
+use mappings::rewrite as without_directions;
 use match_rewrite::rewrite;
 use model_state::Register;
 use sail_base::Items;
-use sail_core::CoreModel;
+use sail_core::{CoreModel, Fragment, model_in};
 use sail_types::Types;
 use size_values::Sized;
 use sized_nodes::SizedCore;
 use std::alloc::{AllocError, Global};
 use tabled_models::core_tabled;
 
-/// The table of a model's types, the widths and lengths of which are small. It fails where a type gets no number, and where memory is wanting.
-fn small_table(alloc: Global, core: &CoreModel, sized: &SizedCore) -> Result<Table, LowerError>
-    ensures is { IfOk result (λ table. TableOf core.now sized.now table) }
-    ensures listed { IfOk result (λ table. numbered_types core.now sized.now ≡ Some table.numbered) }
+/// The table of a model's types, where these directions are made; their widths and lengths are small. It fails where a type gets no number, and where memory
+/// is wanting.
+fn small_table(
+    alloc: Global,
+    core: &CoreModel,
+    sized: &SizedCore,
+    turned: &[Option<u32>],
+) -> Result<Table, LowerError>
+    ensures is { IfOk result (λ table. TableOf core.now sized.now turned.now table) }
+    ensures listed { IfOk result (λ table. numbered_types core.now sized.now turned.now ≡ Some table.numbered) }
     ensures values { IfOk result (λ table. table.types ≡ map (value_at core.now.types table.numbered) table.numbered) }
-    ensures left { IfErr result (OrMemory (TypesLeft core.now sized.now)) }
+    ensures left { IfErr result (OrMemory (TypesLeft core.now sized.now turned.now)) }
 {
-    let table = number_types(alloc, core, sized)?;
+    let table = number_types(alloc, core, sized, turned)?;
     let numbered = table.numbered.as_slice();
     let small = are_small(numbered);
     if small {
@@ -130,19 +146,50 @@ struct Parts {
     truths: Sized,
     /// What calls enter, by the places of instances.
     called: Items<Called>,
+    /// What calls of directions of mappings enter.
+    directions: Items<Mapped>,
+    /// The numbers of the cycles of directions, where they are made.
+    turned: Items<Option<u32>>,
+    /// How many functions stand before those of directions.
+    before: u32,
+    /// And before those of openings.
+    opened_at: u32,
 }
 
-/// What the code of a model is made by. It fails as `lower` does.
-fn make_parts(alloc: Global, core: &CoreModel, sized: &SizedCore) -> Result<Parts, LowerError>
+/// How many functions the instances of a model have. It fails where there are 2^32 or more.
+fn count_functions(sized: &SizedCore) -> Result<u32, AllocError>
+    ensures { IfOk result (λ count. count ≡ 2 * length sized.now.instances) }
+{
+    let many = sized.instances.len();
+    let count = as_number(many)?;
+    further(count, count)
+}
+
+/// The parts of a model of which directions with these numbers of cycles are made, where those of functions fit. It fails as `lower` does.
+fn parts_of(
+    alloc: Global,
+    core: &CoreModel,
+    sized: &SizedCore,
+    cycles: &[u32],
+    turned: Items<Option<u32>>,
+) -> Result<Parts, LowerError>
+    requires fit { NumbersFit core.now.functions sized.now.instances sized.now.mappings (turns_of core.now) cycles.now }
+    requires turned { turned ≡ spec_turned core.now sized.now cycles.now }
     ensures parts { IfOk result (λ parts. PartsOf core.now sized.now parts) }
     ensures left { IfErr result (OrMemory (PartsLeft core.now sized.now)) }
 {
-    let table = small_table(alloc, core, sized)?;
+    let ways = turned.as_slice();
+    let table = small_table(alloc, core, sized, ways)?;
     let Table { numbered, types } = table;
     let numbers = numbered.as_slice();
     let shell = make_shell(alloc, core, numbers, types)?;
-    let called = all_called(alloc, core, sized, numbers)?;
+    let called = all_called(alloc, core, sized, numbers, cycles, ways)?;
     let exception = exception_type(alloc, core.exception);
+    let before = count_functions(sized)?;
+    let made = made_many(ways)?;
+    let opened_at = further(before, made)?;
+    let mapped = core.directions.as_slice();
+    let directions = all_mapped(alloc, &core.types, before, mapped, ways)?;
     Ok(Parts {
         numbered,
         shell,
@@ -150,7 +197,22 @@ fn make_parts(alloc: Global, core: &CoreModel, sized: &SizedCore) -> Result<Part
         nothing: Sized::Unit,
         truths: Sized::Bool,
         called,
+        directions,
+        turned,
+        before,
+        opened_at,
     })
+}
+
+/// What the code of a model is made by. It fails as `lower` does.
+fn make_parts(alloc: Global, core: &CoreModel, sized: &SizedCore) -> Result<Parts, LowerError>
+    ensures parts { IfOk result (λ parts. PartsOf core.now sized.now parts) }
+    ensures left { IfErr result (OrMemory (PartsLeft core.now sized.now)) }
+{
+    let found = fitting_numbers(alloc, core, sized)?;
+    let cycles = found.as_slice();
+    let turned = turned_by(alloc, core, sized, cycles)?;
+    parts_of(alloc, core, sized, cycles, turned)
 }
 
 /// A model of these parts, where openings of these types are read, and these are of names.
@@ -167,6 +229,8 @@ fn model_by<'x>(
 {
     let numbered = parts.numbered.as_slice();
     let called = parts.called.as_slice();
+    let directions = parts.directions.as_slice();
+    let turned = parts.turned.as_slice();
     Model {
         core,
         sized,
@@ -176,12 +240,14 @@ fn model_by<'x>(
         nothing: &parts.nothing,
         truths: &parts.truths,
         called,
+        directions,
+        turned,
         lets,
         openings,
     }
 }
 
-/// The functions of openings, which stand behind those of instances. They fail as `lower` does.
+/// The functions of openings, which stand behind those of instances and of directions. They fail as `lower` does.
 fn opened_of<'x>(
     alloc: Global,
     core: &'x CoreModel,
@@ -192,13 +258,35 @@ fn opened_of<'x>(
     ensures left { IfErr result (OrMemory (OpenedLeft core.now sized.now parts.now)) }
 {
     let bare = model_by(core, sized, parts, &[], &[]);
-    let many = sized.instances.len();
-    let count = as_number(many)?;
-    let before = further(count, count)?;
-    make_openings(alloc, &bare, before)
+    make_openings(alloc, &bare, parts.opened_at)
 }
 
-/// The functions of instances, which may read these openings. They fail as `lower` does.
+/// Functions come behind others. They fail where memory is wanting.
+fn push_all(functions: &mut Items<Made>, others: Items<Made>) -> Result<(), AllocError>
+    ensures { OnOk result (functions.new ≡ functions.old ++ others) }
+{
+    for function in others.into_vec() {
+        functions.push(function)?;
+    }
+    Ok(())
+}
+
+/// The functions of instances, and behind these, which are so many, those of directions. They fail as `lower` does.
+fn make_functions<'x>(
+    alloc: Global,
+    model: &'x Model<'x>,
+    before: u32,
+) -> Result<Items<Made>, LowerError>
+    ensures made { IfOk result (λ functions. FunctionsMade model.now before functions) }
+    ensures left { IfErr result (OrMemory (SomeLeft model.now before)) }
+{
+    let mut functions = make_instances(alloc, &*model)?;
+    let ways = make_ways(alloc, &*model, before)?;
+    push_all(&mut functions, ways)?;
+    Ok(functions)
+}
+
+/// The functions of instances and of directions, which may read these openings. They fail as `lower` does.
 fn functions_of<'x>(
     alloc: Global,
     core: &'x CoreModel,
@@ -212,17 +300,7 @@ fn functions_of<'x>(
     let lets = opened.types.as_slice();
     let openings = opened.names.as_slice();
     let model = model_by(core, sized, parts, lets, openings);
-    make_instances(alloc, &model)
-}
-
-/// Functions come behind others. They fail where memory is wanting.
-fn push_all(functions: &mut Items<Made>, others: Items<Made>) -> Result<(), AllocError>
-    ensures { OnOk result (functions.new ≡ functions.old ++ others) }
-{
-    for function in others.into_vec() {
-        functions.push(function)?;
-    }
-    Ok(())
+    make_functions(alloc, &model, parts.before)
 }
 
 /// The module of a model with flat arms, whose calls are told apart by the numbers of their nodes. It fails as `lower` does.
@@ -276,29 +354,35 @@ fn lower_module(alloc: Global, core: &CoreModel, sized: &SizedCore) -> Result<Mo
 /// A model that is lowered.
 #[derive(Drop)]
 pub struct Lowered {
-    /// The model with flat arms.
+    /// The model without mappings and with flat arms.
     pub flat: CoreModel,
     /// Its module.
     pub checked: Checked,
 }
 
 /// The module of a model as it is written, with the sizes of its nodes: of the i-th instance the function 2i, which calls enter, and the function 2i + 1,
-/// which events enter; behind them those of openings. It fails where the tables of the model aren't whole under the numbers that are noted before a value is
+/// which events enter; behind them those of directions of mappings that are called, and those of openings. It fails where the tables of the model aren't whole under the numbers that are noted before a value is
 /// there, where a tree isn't lowered here or a case of it doesn't fit, where a type gets no number, and where memory is wanting.
 pub fn lower(alloc: Global, written: CoreModel, sized: &SizedCore) -> Result<Lowered, LowerError>
-    ensures flat { IfOk result (λ lowered. lowered.flat ≡ with_flat_arms written) }
+    ensures flat { IfOk result (λ lowered. lowered.flat ≡ with_flat_arms (without_mappings written)) }
     ensures made { IfOk result (λ lowered. LoweredFrom written sized.now lowered.checked.program) }
     ensures left { IfErr result (OrMemory (NotLowerable written sized.now)) }
 {
     let tabled = core_tabled(alloc, false, &written)?;
+    let resolved = model_in(Fragment::Resolved, &written);
     if tabled {
-        let flat = rewrite(alloc, written)?;
-        let program = lower_module(alloc, &flat, sized)?;
-        modules_are_valid();
-        Ok(Lowered {
-            flat,
-            checked: Checked { program },
-        })
+        if resolved {
+            let free = without_directions(alloc, written)?;
+            let flat = rewrite(alloc, free)?;
+            let program = lower_module(alloc, &flat, sized)?;
+            modules_are_valid();
+            Ok(Lowered {
+                flat,
+                checked: Checked { program },
+            })
+        } else {
+            Err(LowerError::NotResolved)
+        }
     } else {
         Err(LowerError::NotTabled)
     }

@@ -17,6 +17,7 @@ ghost use Rattle.jib_lower.specs.Left as unmade;
 use crate::error::LowerError;
 use crate::functions::{Head, with_code};
 use crate::instances::{Model, following, setting_of};
+use crate::reads::tree_reads;
 use jib::{Function as Made, Opening as MadeOpening};
 use lowered_ends::{Around, ends_with, is_arm, is_lowered, node_ends};
 use lowered_functions::{LetName, Walk, put_name, put_value};
@@ -202,7 +203,13 @@ fn value_type<'x>(
     ensures typ { IfOk result (unmade.ValueTyped model.now of.now nodes.now opened.now.types opened.now.names) }
     ensures left { IfErr result (OrMemory (unmade.NoType model.now of.now nodes.now opened.now.types opened.now.names)) }
 {
-    let setting = setting_of(model, nodes, &[])?;
+    let plain = setting_of(model, nodes, &[])?;
+    let reads = tree_reads(alloc, &plain, &of.value)?;
+    let told = reads.as_slice();
+    let setting = Setting {
+        reads: told,
+        ..plain
+    };
     let around = around_of(model, opened);
     let signs = signs_of(model, opened, setting.unit);
     let judge = Judge {
@@ -229,7 +236,13 @@ fn value_function<'x>(
     ensures made { IfOk result (λ made. ValueMade model.now of.now nodes.now opened.now.types opened.now.names made) }
     ensures left { IfErr result (OrMemory (unmade.ValueLeft model.now of.now nodes.now opened.now.types opened.now.names typ.now)) }
 {
-    let setting = setting_of(model, nodes, &[])?;
+    let plain = setting_of(model, nodes, &[])?;
+    let reads = tree_reads(alloc, &plain, &of.value)?;
+    let told = reads.as_slice();
+    let setting = Setting {
+        reads: told,
+        ..plain
+    };
     let around = around_of(model, opened);
     let result = setting.number(typ)?;
     let signs = signs_of(model, opened, result);
@@ -354,7 +367,13 @@ fn let_function<'x>(
     ensures made { IfOk result (λ made. grows.LetMade model.now of.now nodes.now opened.now.types opened.now.names arm.now whole.now made) }
     ensures left { IfErr result (OrMemory (unmade.LetValueLeft model.now of.now nodes.now opened.now.types opened.now.names arm.now whole.now)) }
 {
-    let setting = setting_of(model, nodes, &[])?;
+    let plain = setting_of(model, nodes, &[])?;
+    let reads = tree_reads(alloc, &plain, &of.value)?;
+    let told = reads.as_slice();
+    let setting = Setting {
+        reads: told,
+        ..plain
+    };
     let around = around_of(model, opened);
     let result = setting.number(whole)?;
     let signs = signs_of(model, opened, result);

@@ -10,13 +10,14 @@ ghost use Rattle.lowered_pieces.specs.Arms.{width_or, word_width};
 ghost use Rattle.lowered_validity.specs.Laws.{sizes_small};
 ghost use Rattle.lowered_pieces.specs.Emitted.{Begins};
 ghost use Rattle.lowered_tables.specs.Built.{Stands, length_fits, sizes_fit, value_at, width_fits, with_numbers};
-ghost use Rattle.jib_lower.specs.Types.{all_in_bodies, all_in_cases, all_in_instances, all_in_leads, all_in_nodes, all_in_registers, all_in_told};
+ghost use Rattle.jib_lower.specs.Types.{all_in_bodies, all_in_cases, all_in_instances, all_in_leads, all_in_nodes, all_in_registers, all_in_told, all_in_ways};
 ghost use Rattle.jib_lower.specs.Types.{AllNarrow, all_small, exception_typ, in_signature};
 ghost use Rattle.jib_lower.specs.Types as asked;
 ghost use Rattle.jib_lower.specs.Errors.{OrMemory};
 ghost use Rattle.jib_lower.specs.Left.{TypesLeft};
 
 use crate::error::LowerError;
+use crate::way_types::add_ways;
 use lowered_tables::{Table, TypeList, add_all, add_type, new_list, table_of};
 use model_state::Register;
 use sail_base::Items;
@@ -129,7 +130,7 @@ fn add_leads(
 }
 
 /// The types of what nodes make and take get numbers. It fails as for a type.
-fn add_nodes(
+pub fn add_nodes(
     alloc: Global,
     types: &Types,
     table: &mut TypeList,
@@ -306,7 +307,7 @@ fn add_words(
 /// How many widths of words every model has.
 const WIDTHS: u32 = 129;
 
-/// The types that have a number in a model. It fails where types are nested too deeply, and where memory is wanting.
+/// The types that have a number in a model beside its directions. It fails where types are nested too deeply, and where memory is wanting.
 fn list_types(alloc: Global, core: &CoreModel, sized: &SizedCore) -> Result<TypeList, LowerError>
     ensures never { IfOk result (λ list. Begins (S.Never ∷ []) list.numbered) }
     ensures instances { IfOk result (λ list. all_in_instances list.numbered sized.now.instances ≡ true) }
@@ -314,8 +315,8 @@ fn list_types(alloc: Global, core: &CoreModel, sized: &SizedCore) -> Result<Type
     ensures basic { IfOk result (λ list. all_known list.numbered (S.Unit ∷ S.Bool ∷ S.Int ∷ exception_typ core.now.exception ∷ []) ≡ true) }
     ensures registers { IfOk result (λ list. all_in_registers core.now.types list.numbered core.now.registers ≡ true) }
     ensures words { IfOk result (λ list. (n : ℕ) → n ≤ 128 → is_known list.numbered (S.Bits (pos n)) ≡ true) }
-    ensures listed { IfOk result (λ list. asked.numbered_types core.now sized.now ≡ Some list.numbered) }
-    ensures left { IfErr result (OrMemory (asked.numbered_types core.now sized.now ≡ None)) }
+    ensures listed { IfOk result (λ list. asked.listed_types core.now sized.now ≡ Some list.numbered) }
+    ensures left { IfErr result (OrMemory (asked.listed_types core.now sized.now ≡ None)) }
 {
     let types = &core.types;
     let mut list = new_list(alloc)?;
@@ -327,19 +328,58 @@ fn list_types(alloc: Global, core: &CoreModel, sized: &SizedCore) -> Result<Type
     Ok(list)
 }
 
-/// The table of a model's types. It fails where types are nested too deeply, where a size isn't within its limit, and where memory is wanting.
-pub fn number_types(alloc: Global, core: &CoreModel, sized: &SizedCore) -> Result<Table, LowerError>
+/// The types that have a number in a model, where these directions are made. It fails where types are nested too deeply, and where memory is wanting.
+fn list_all(
+    alloc: Global,
+    core: &CoreModel,
+    sized: &SizedCore,
+    turned: &[Option<u32>],
+) -> Result<TypeList, LowerError>
+    ensures never { IfOk result (λ list. Begins (S.Never ∷ []) list.numbered) }
+    ensures instances { IfOk result (λ list. all_in_instances list.numbered sized.now.instances ≡ true) }
+    ensures openings { IfOk result (λ list. all_in_bodies list.numbered sized.now.openings ≡ true) }
+    ensures ways { IfOk result (λ list. all_in_ways list.numbered sized.now.mappings 0 core.now.directions turned.now ≡ true) }
+    ensures basic { IfOk result (λ list. all_known list.numbered (S.Unit ∷ S.Bool ∷ S.Int ∷ exception_typ core.now.exception ∷ []) ≡ true) }
+    ensures registers { IfOk result (λ list. all_in_registers core.now.types list.numbered core.now.registers ≡ true) }
+    ensures words { IfOk result (λ list. (n : ℕ) → n ≤ 128 → is_known list.numbered (S.Bits (pos n)) ≡ true) }
+    ensures listed { IfOk result (λ list. asked.numbered_types core.now sized.now turned.now ≡ Some list.numbered) }
+    ensures left { IfErr result (OrMemory (asked.numbered_types core.now sized.now turned.now ≡ None)) }
+{
+    let mut list = list_types(alloc, core, sized)?;
+    let mappings = sized.mappings.as_slice();
+    let directions = core.directions.as_slice();
+    add_ways(
+        alloc,
+        &core.types,
+        &mut list,
+        mappings,
+        0,
+        directions,
+        turned,
+    )?;
+    Ok(list)
+}
+
+/// The table of a model's types, where these directions are made. It fails where types are nested too deeply, where a size isn't within its limit, and where
+/// memory is wanting.
+pub fn number_types(
+    alloc: Global,
+    core: &CoreModel,
+    sized: &SizedCore,
+    turned: &[Option<u32>],
+) -> Result<Table, LowerError>
     ensures stands { IfOk result (λ table. Stands core.now.types table) }
     ensures instances { IfOk result (λ table. all_in_instances table.numbered sized.now.instances ≡ true) }
     ensures openings { IfOk result (λ table. all_in_bodies table.numbered sized.now.openings ≡ true) }
+    ensures ways { IfOk result (λ table. all_in_ways table.numbered sized.now.mappings 0 core.now.directions turned.now ≡ true) }
     ensures basic { IfOk result (λ table. all_known table.numbered (S.Unit ∷ S.Bool ∷ S.Int ∷ exception_typ core.now.exception ∷ []) ≡ true) }
     ensures registers { IfOk result (λ table. all_in_registers core.now.types table.numbered core.now.registers ≡ true) }
     ensures words { IfOk result (λ table. (n : ℕ) → n ≤ 128 → is_known table.numbered (S.Bits (pos n)) ≡ true) }
-    ensures listed { IfOk result (λ table. asked.numbered_types core.now sized.now ≡ Some table.numbered) }
+    ensures listed { IfOk result (λ table. asked.numbered_types core.now sized.now turned.now ≡ Some table.numbered) }
     ensures values { IfOk result (λ table. table.types ≡ map (value_at core.now.types table.numbered) table.numbered) }
-    ensures left { IfErr result (OrMemory (TypesLeft core.now sized.now)) }
+    ensures left { IfErr result (OrMemory (TypesLeft core.now sized.now turned.now)) }
 {
-    let list = list_types(alloc, core, sized)?;
+    let list = list_all(alloc, core, sized, turned)?;
     let table = table_of(alloc, &core.types, list)?;
     Ok(table)
 }

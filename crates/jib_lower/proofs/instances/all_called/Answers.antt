@@ -1,17 +1,27 @@
-use Rattle.std.proofs.Common.{◌∙◌, ap, length, sym}
-use Rattle.jib_lower.specs.Cycles.{all_there}
-use Rattle.jib_lower.specs.Left.{some_entry}
-use Rattle.jib_lower.proofs.Unmade.{entry_nowhere}
+use Rattle.std.proofs.Common.{◌≡◌, ◌∙◌, ◌++◌, ap, subst, sym}
+use Rattle.jib_lower.specs.Added.{AllEnter}
+use Rattle.jib_lower.specs.Left.{SomeEntryLeft, some_entry}
+use Rattle.jib_lower.proofs.Listed.{enter_each, enter_many}
+use Rattle.jib_lower.proofs.Unmade.{exit_more}
 use Rattle.jib_lower.proofs.instances.all_called.Goals as goal
 
-pub called_there-requires : goal.called_there-requires
-called_there-requires c = record {
-  there = ap (all_there (length c.args.core.now.functions)) (sym c.as_slice.ensures) ∙ ap (λ n. all_there n c.as_slice.result.now) (sym c.len.ensures)
-      ∙ sym c.are_there-there.ensures ∙ c.if-there.true;
-}
+pub returns-clause-called : goal.returns-clause-called
+returns-clause-called c =
+    let more = c.in_ok-push_called.ensures.added in
+    let enter : AllEnter c.args.numbered.now c.args.cycles.now c.args.sized.now.instances more.added =
+    subst (λ xs. AllEnter c.args.numbered.now c.args.cycles.now xs more.added) c.as_slice-instances.ensures more.enter in
+    let enter_new : AllEnter c.args.numbered.now c.args.cycles.now c.args.sized.now.instances c.push_called.new.called =
+    subst (λ cs. AllEnter c.args.numbered.now c.args.cycles.now c.args.sized.now.instances cs) (sym (more.is ∙ ap
+    (λ cs. cs ++ more.added) c.new-called.ensures)) enter in
+    record {
+      many = enter_many c.args.numbered.now c.args.cycles.now c.args.sized.now.instances c.push_called.new.called enter_new;
+      cycles = c.args.cycles.now;
+      fit = c.requires.fit;
+      turned_is = c.requires.turned;
+      each = enter_each c.args.numbered.now c.args.cycles.now c.args.sized.now.instances c.push_called.new.called enter_new;
+    }
 
-pub returns-else-there-clause-left : goal.returns-else-there-clause-left
-returns-else-there-clause-left c =
-    some_entry (entry_nowhere c.args.core.now c.args.sized.now.instances
-    (ap (all_there (length c.args.core.now.functions)) (sym c.as_slice.ensures) ∙ ap (λ n. all_there n c.as_slice.result.now) (sym c.len.ensures)
-    ∙ sym c.are_there-there.ensures ∙ c.if-there.false))
+pub returns-in_err-push_called-clause-left : goal.returns-in_err-push_called-clause-left
+returns-in_err-push_called-clause-left c =
+    exit_more _ _ c.from_residual.ensures.1
+    (λ some. some_entry (subst (λ xs. SomeEntryLeft c.args.core.now xs) c.as_slice-instances.ensures some)) c.in_err-push_called.ensures.left

@@ -7,6 +7,7 @@ returns c = record {
   numbered = refl;
   bodies_are = refl;
   numbers_are = refl;
+  reads_are = refl;
   nothing = refl;
   truths = refl;
   unit = c.in_ok-unit.ensures;

@@ -5,20 +5,20 @@ use Rattle.jib_lower.proofs.lowering.functions_of.Goals as goal
 
 pub returns-clause-made : goal.returns-clause-made
 returns-clause-made c =
-    IfOk-weaker c.make_instances.result _ _ (λ functions h. record {
+    IfOk-weaker c.make_functions.result _ _ (λ functions h. record {
       model = c.model_by-model.result;
       is = c.model_by-model.ensures.is;
       lets = c.model_by-model.ensures.lets ∙ c.as_slice-lets.ensures;
       names = c.model_by-model.ensures.openings ∙ c.as_slice-openings.ensures;
       made = h;
-    }) c.make_instances.ensures.made
+    }) c.make_functions.ensures.made
 
 pub returns-clause-left : goal.returns-clause-left
 returns-clause-left c =
-    last_more c.make_instances.result (λ why. record {
+    last_more c.make_functions.result (λ why. record {
       model = c.model_by-model.result;
       is = c.model_by-model.ensures.is;
       lets = c.model_by-model.ensures.lets ∙ c.as_slice-lets.ensures;
       names = c.model_by-model.ensures.openings ∙ c.as_slice-openings.ensures;
       why = why;
-    }) c.make_instances.ensures.left
+    }) c.make_functions.ensures.left

@@ -11,4 +11,6 @@ returns-clause-is c = record {
   nothing = refl;
   truths = refl;
   called = c.as_slice-called.ensures;
+  directions = c.as_slice-directions.ensures;
+  turned = c.as_slice-turned.ensures;
 }

@@ -11,6 +11,7 @@ returns-then-small-clause-is c =
       stands = table.stands;
       in_instances = table.instances;
       in_openings = table.openings;
+      in_ways = table.ways;
       in_registers = table.registers;
       small = ap all_small (sym c.as_slice-numbered.ensures) ∙ c.are_small-small.ensures.small c.if-small.true;
       basic = table.basic;

@@ -3,8 +3,8 @@ use Rattle.jib_lower.specs.Lowered.{fails_seen, names_differ, names_in}
 use Rattle.jib_lower.proofs.Unmade.{first_naming, not_both}
 use Rattle.lowered_pieces.specs.Mapped.{ends_with, fixed_end}
 use Rattle.lowered_ends.specs.Around.{node_for}
-use Rattle.lowered_pieces.specs.Arms.{arm_lowered}
-use Rattle.lowered_steps.specs.Setting.{size_for}
+use Rattle.lowered_pieces.specs.Arms.{arm_fits}
+use Rattle.lowered_steps.specs.Setting.{reads_at, size_for}
 use Rattle.jib_lower.proofs.openings.is_taken.Goals as goal
 
 pub returns-then-seen-clause-is : goal.returns-then-seen-clause-is
@@ -18,7 +18,8 @@ returns-then-seen-clause-is c = λ h. record {
 pub returns-then-seen-clause-no : goal.returns-then-seen-clause-no
 returns-then-seen-clause-no c = λ lack. record {
   why = λ taken.
-      not_both (ends_with c.args.whole.now (fixed_end (node_for c.args.walk.now.setting.now c.args.walk.now.around.now first_naming c.args.value.now).piece.ends))
+      not_both (ends_with c.args.whole.now (fixed_end (node_for c.args.walk.now.setting.now c.args.walk.now.around.now first_naming
+      c.args.value.now).piece.ends))
       (taken.ends first_naming) (sym (c.in_ok-ends.ensures first_naming) ∙ lack);
 }
 
@@ -38,5 +39,6 @@ returns-else-differ-clause-no c = λ lack. record {
 pub returns-else-lowered-clause-no : goal.returns-else-lowered-clause-no
 returns-else-lowered-clause-no c = λ lack. record {
   why = λ taken.
-      not_both (arm_lowered (size_for c.args.walk.now.setting.now) c.args.arm.now) taken.lowered (sym c.is_arm-lowered.ensures ∙ c.if-lowered.false);
+      not_both (arm_fits (size_for c.args.walk.now.setting.now) (reads_at c.args.walk.now.setting.now.reads.now) c.args.arm.now) taken.lowered
+      (sym c.is_arm-lowered.ensures ∙ c.if-lowered.false);
 }

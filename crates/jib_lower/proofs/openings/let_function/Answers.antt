@@ -3,6 +3,7 @@ use Rattle.std.proofs.lemmas.Result.{IfOk-weaker}
 use Rattle.lowered_types.specs.Table.{type_in}
 use Rattle.jib_lower.proofs.Coded.{let_made}
 use Rattle.jib_lower.specs.Left.{arm_left, value_left}
+use Rattle.jib_lower.proofs.Told.{tree_told}
 use Rattle.jib_lower.proofs.Unmade.{last_more}
 use Rattle.jib_lower.proofs.openings.let_function.Goals as goal
 
@@ -11,7 +12,8 @@ returns-then-taken-clause-made c =
     IfOk-weaker c.make_value.result _ _ (λ made h.
     let_made c.args.model.now c.args.opened.now.types c.args.opened.now.names _ _ _ made c.args.of.now c.args.nodes.now c.args.arm.now c.args.whole.now h
     (record {
-      setting = c.in_ok-setting.ensures;
+      setting = tree_told c.args.model.now c.in_ok-plain.plain c.as_slice-told.result c.args.of.now.value c.args.nodes.now c.in_ok-reads.reads
+          c.as_slice-told.ensures c.in_ok-reads.ensures c.in_ok-plain.ensures;
       instances = c.around_of-around.ensures.instances;
       given = c.around_of-around.ensures.given;
       openings = c.around_of-around.ensures.openings;
@@ -27,7 +29,7 @@ returns-then-taken-clause-made c =
       reads = c.in_ok-count.ensures ∙ c.len.ensures;
       pure = refl;
     })
-    (c.in_ok-result.ensures ∙ ap (λ xs. type_in xs c.args.whole.now) c.in_ok-setting.ensures.numbered)
+    (c.in_ok-result.ensures ∙ ap (λ xs. type_in xs c.args.whole.now) c.in_ok-plain.ensures.numbered)
     (c.in_ok-taken.ensures.is c.if-taken.true)) c.make_value.ensures.made
 
 pub returns-then-taken-clause-left : goal.returns-then-taken-clause-left
@@ -36,7 +38,8 @@ returns-then-taken-clause-left c = last_more c.make_value.result (λ why. value_
   judge = _;
   head = _;
   around = record {
-    setting = c.in_ok-setting.ensures;
+    setting = tree_told c.args.model.now c.in_ok-plain.plain c.as_slice-told.result c.args.of.now.value c.args.nodes.now c.in_ok-reads.reads
+        c.as_slice-told.ensures c.in_ok-reads.ensures c.in_ok-plain.ensures;
     instances = c.around_of-around.ensures.instances;
     given = c.around_of-around.ensures.given;
     openings = c.around_of-around.ensures.openings;
@@ -52,15 +55,16 @@ returns-then-taken-clause-left c = last_more c.make_value.result (λ why. value_
     reads = c.in_ok-count.ensures ∙ c.len.ensures;
     pure = refl;
   };
-  result = c.in_ok-result.ensures ∙ ap (λ xs. type_in xs c.args.whole.now) c.in_ok-setting.ensures.numbered;
+  result = c.in_ok-result.ensures ∙ ap (λ xs. type_in xs c.args.whole.now) c.in_ok-plain.ensures.numbered;
   why = why;
 })) c.make_value.ensures.left
 
-pub returns-else-taken-clause-left : goal.returns-else-taken-clause-left
-returns-else-taken-clause-left c = arm_left (record {
+pub returns-clause-left : goal.returns-clause-left
+returns-clause-left c = arm_left (record {
   walk = _;
   walked = record {
-    setting = c.in_ok-setting.ensures;
+    setting = tree_told c.args.model.now c.in_ok-plain.plain c.as_slice-told.result c.args.of.now.value c.args.nodes.now c.in_ok-reads.reads
+        c.as_slice-told.ensures c.in_ok-reads.ensures c.in_ok-plain.ensures;
     instances = c.around_of-around.ensures.instances;
     given = c.around_of-around.ensures.given;
     openings = c.around_of-around.ensures.openings;

@@ -1,3 +1,4 @@
+use Rattle.jib_lower.proofs.Told.{tree_told}
 use Rattle.jib_lower.proofs.Unmade.{none_at, some_at}
 use Rattle.jib_lower.proofs.openings.value_type.Goals as goal
 
@@ -5,7 +6,8 @@ pub returns-in-Some-clause-typ : goal.returns-in-Some-clause-typ
 returns-in-Some-clause-typ c = record {
   judge = _;
   judged = record {
-    setting = c.in_ok-setting.ensures;
+    setting = tree_told c.args.model.now c.in_ok-plain.plain c.as_slice-told.result c.args.of.now.value c.args.nodes.now c.in_ok-reads.reads
+        c.as_slice-told.ensures c.in_ok-reads.ensures c.in_ok-plain.ensures;
     instances = c.around_of-around.ensures.instances;
     given = c.around_of-around.ensures.given;
     openings = c.around_of-around.ensures.openings;
@@ -20,11 +22,12 @@ returns-in-Some-clause-typ c = record {
   only = some_at _ _ _ c.in-Some.is c.in_ok-typ.ensures.some;
 }
 
-pub returns-in-None-clause-left : goal.returns-in-None-clause-left
-returns-in-None-clause-left c = record {
+pub returns-clause-left : goal.returns-clause-left
+returns-clause-left c = record {
   judge = _;
   judged = record {
-    setting = c.in_ok-setting.ensures;
+    setting = tree_told c.args.model.now c.in_ok-plain.plain c.as_slice-told.result c.args.of.now.value c.args.nodes.now c.in_ok-reads.reads
+        c.as_slice-told.ensures c.in_ok-reads.ensures c.in_ok-plain.ensures;
     instances = c.around_of-around.ensures.instances;
     given = c.around_of-around.ensures.given;
     openings = c.around_of-around.ensures.openings;

@@ -1,7 +1,7 @@
 use Rattle.std.proofs.Common.{◌≡◌, ◌≤◌, ℕ, ◌∷◌, [], pos, subst, sym, true}
 use Rattle.size_values.specs.declared.sized.Sized.TheVariants as S
 use Rattle.lowered_types.specs.Table.{all_known, is_known}
-use Rattle.jib_lower.specs.Types.{all_in_bodies, all_in_instances, all_in_registers, exception_typ}
+use Rattle.jib_lower.specs.Types.{all_in_bodies, all_in_instances, all_in_registers, all_in_ways, exception_typ}
 use Rattle.std.proofs.Common.{◌∙◌, Some, ap}
 use Rattle.jib_lower.specs.Left.{nested_types, no_value_type}
 use Rattle.jib_lower.proofs.Unmade.{exit_more, exit_table}
@@ -20,6 +20,11 @@ returns-clause-instances c =
 pub returns-clause-openings : goal.returns-clause-openings
 returns-clause-openings c =
     subst (λ ns. all_in_bodies ns c.args.sized.now.openings ≡ true) (sym c.in_ok-table.ensures.same) c.in_ok-list.ensures.openings
+
+pub returns-clause-ways : goal.returns-clause-ways
+returns-clause-ways c =
+    subst (λ ns. all_in_ways ns c.args.sized.now.mappings 0 c.args.core.now.directions c.args.turned.now ≡ true) (sym c.in_ok-table.ensures.same)
+    c.in_ok-list.ensures.ways
 
 pub returns-clause-basic : goal.returns-clause-basic
 returns-clause-basic c =
