@@ -1,6 +1,7 @@
 -- The numbers of cycles in the module of a model.
-use Rattle.std.proofs.Common.{◌≡◌, ◌∙◌, ℕ, zero, suc, ◌≤◌, Bool, true, false, List, [], ◌∷◌, Option, Some, None, refl, sym, ap, subst, arith, eq-eqb, eqb-true}
-use Rattle.std.specs.Prelude.{◌&&◌, ◌*◌, ◌++◌, not, nat_eq, nat_le, slice_get, slice_index_or, if◌then◌else◌}
+use Rattle.std.proofs.Common.{◌≡◌, ◌∙◌, ℕ, zero, suc, ◌+◌, ◌-◌, ◌≤◌, Bool, true, false, List, [], ◌∷◌, Option, Some, None, refl, sym, ap, subst, arith}
+use Rattle.std.proofs.Common.{eq-eqb, eqb-true}
+use Rattle.std.specs.Prelude.{◌&&◌, ◌*◌, ◌/◌, ◌++◌, length, not, nat_eq, nat_le, slice_get, slice_index_or, if◌then◌else◌}
 use Rattle.std.proofs.lemmas.Bool.Decides.{nat_tests}
 use Rattle.sail_core.specs.Numbers.{Instance}
 use Rattle.sail_core.specs.declared.model.Function.{Function}
@@ -12,18 +13,24 @@ use Rattle.sized_nodes.specs.declared.trees.NodeSizes.TheVariants as N
 use Rattle.sized_nodes.specs.declared.trees.SizedCore.{SizedCore}
 use Rattle.sized_nodes.specs.declared.trees.SizedInstance.{SizedInstance}
 use Rattle.sized_meanings.specs.Present.{is_noted, is_present, present_lead}
-use Rattle.sized_meanings.specs.Sized.{joined_nodes, nodes_for}
+use Rattle.sized_meanings.specs.Sized.{joined_nodes}
 use Rattle.jib.specs.declared.code.Module.{Module}
 use Rattle.jib.specs.Jib.{cycle_in, cycle_of}
 use Rattle.jib.specs.declared.code.Function.{Function as Lowered}
 use Rattle.lowered_pieces.specs.Nodes.{awaited_in, function_in, leads_at}
+use Rattle.lowered_ends.specs.Around.{direction_in}
+use Rattle.lowered_pieces.specs.Forms.{Mapped}
 use Rattle.lowered_laws.specs.Modules.{Leads, Made}
+use Rattle.lowered_typed.specs.Judging.{turned_in}
 use Rattle.lowered_typed.specs.declared.signs.Called.{Called}
-use Rattle.jib_lower.specs.Cycles.{number_there, alike, bodies_fall, cycle_at, in_one, instances_fall, leads_fall, nodes_fall, pair_fits}
+use Rattle.jib_lower.specs.Cycles.{number_there, alike, bodies_fall, cycle_at, in_one, instances_fall, leads_fall, mapping_falls, nodes_fall, pair_fits}
 use Rattle.jib_lower.specs.Instances.{Enters, MadeAt}
 use Rattle.jib_lower.specs.Lowered.{FlatFrom}
+use Rattle.jib_lower.proofs.Basics.{get_past}
 use Rattle.lowered_cycles.specs.Laws.{CyclesStand}
-use Rattle.module_cycles.specs.Laws.{OfModel}
+use Rattle.module_cycles.specs.Laws.{OfModel, cycle_by, cycle_there, nodes_by, nodes_of, way_cycle, way_nodes}
+use Rattle.module_cycles.proofs.Falls.{turned_falls}
+use Rattle.module_cycles.proofs.Ways.{WayThere, way_there}
 
 none_is : {A X : Type 0} (x : A) → None ≡ Some x → X
 none_is x e = cc
@@ -126,9 +133,33 @@ caller_falls numbers xs (x ∷ rest) (suc p) y h e =
     (instances_fall numbers xs rest) h)
     e
 
-module _ (core : CoreModel) (sized : SizedCore) (m : Module) (x : Made) (low : FlatFrom core sized m) (of : OfModel core sized m x) where
+-- ---- directions of mappings
+
+-- what may be called is made, and has this number or a lower one
+pub turned_there : (own : ℕ) (o : Option (Option ℕ)) → turned_in own o ≡ true → (c : ℕ) × (o ≡ Some (Some c)) × (c ≤ own)
+turned_there own None h = no h
+turned_there own (Some None) h = no h
+turned_there own (Some (Some c)) h = (c, refl, le_true c own h)
+
+pub none_past : {A : Type 0} (xs : List A) (k : ℕ) → slice_get xs (length xs + k) ≡ None
+none_past [] k = refl
+none_past (x ∷ xs) k = ap (slice_get (x ∷ xs)) (next (length xs) k) ∙ none_past xs k
+  where
+    next : (n k : ℕ) → suc n + k ≡ suc (n + k)
+    next n k = omega arith
+
+pub back : (n k : ℕ) → n + k - n ≡ k
+back n k = omega arith
+
+module _ (core : CoreModel) (sized : SizedCore) (m : Module) (x : Made) (low : FlatFrom core sized m) (of : OfModel core sized m low x) where
   abbrev numbers : List ℕ
   numbers = low.called.cycles
+
+  abbrev turned : List (Option ℕ)
+  turned = low.model.turned.now
+
+  abbrev at_place : ℕ → ℕ
+  at_place = cycle_there core sized m low
 
   got_before : (fs more : List Lowered) (i : ℕ) (f : Lowered) → slice_get fs i ≡ Some f → slice_get (fs ++ more) i ≡ Some f
   got_before [] more i f h = none_is f h
@@ -142,7 +173,7 @@ module _ (core : CoreModel) (sized : SizedCore) (m : Module) (x : Made) (low : F
       let at : MadeAt low.model low.functions p y = low.instances.each p y (ap (λ (z : SizedCore). slice_get z.instances p) low.is.of_sized ∙ e) in
       let q = low.called.each p y e in
       ap (λ z. cycle_of z (x.function p)) of.module_is ∙ ap (cycle_of m) (of.function p)
-      ∙ ap cycle_in (ap (λ fs. slice_get fs (2 * p)) low.all ∙ got_before low.functions low.opened (2 * p) at.called at.called_there)
+      ∙ ap cycle_in (ap (λ fs. slice_get fs (2 * p)) low.all ∙ got_before low.functions (low.ways ++ low.opened) (2 * p) at.called at.called_there)
       ∙ at.made.called_is.cycle ∙ at.headed.cycle_is
       ∙ ap (λ (c : Called). c.cycle) (some_same at.called_is q.0 (sym at.enters ∙ q.1)) ∙ q.2.cycle
 
@@ -161,39 +192,97 @@ module _ (core : CoreModel) (sized : SizedCore) (m : Module) (x : Made) (low : F
       let r = called_there p i a f leads in
       entered_cycle a.place r.0 r.1 ∙ ap (λ n. slice_index_or numbers n 0) r.2
 
-  falls : (p i : ℕ) (a : Instance) (f : Function) → Leads x p a i f → cycle_of x.m (x.function a.place) ≤ cycle_of x.m (x.function p)
-  falls p i a f leads = by (slice_get sized.instances p) refl
-    where
-      here : present_lead leads.leads.noted (leads_at leads.leads.node (nodes_for (slice_get sized.instances p))) ≡ Some leads.leads.lead
-      here = ap (present_lead leads.leads.noted) (sym (of.leads p leads.leads.node)) ∙ leads.leads.there
+  instance_cycle : (p : ℕ) (y : SizedInstance) → slice_get sized.instances p ≡ Some y → at_place p ≡ slice_index_or numbers y.instance.function 0
+  instance_cycle p y e = ap (cycle_by numbers turned (p - length sized.instances)) e
 
-      by : (o : Option SizedInstance) → slice_get sized.instances p ≡ o → cycle_of x.m (x.function a.place) ≤ cycle_of x.m (x.function p)
+  is_at : (p i : ℕ) (a : Instance) (f : Function) → Leads x p a i f → cycle_of x.m (x.function a.place) ≡ at_place a.place
+  is_at p i a f leads =
+      let r = called_there p i a f leads in
+      entered_cycle a.place r.0 r.1 ∙ sym (instance_cycle a.place r.0 r.1)
+
+  -- the calls of what stands at a place lead to its number or a lower one
+  way_falls : (d : ℕ) (o : Option (Option ℕ)) (nodes : Option (List NodeSizes)) → slice_get turned d ≡ o → slice_get sized.mappings (d / 2) ≡ nodes
+      → nodes_fall numbers sized.instances (way_cycle o) (way_nodes o nodes) ≡ true
+  way_falls d None nodes e f = refl
+  way_falls d (Some None) nodes e f = refl
+  way_falls d (Some (Some c)) None e f = refl
+  way_falls d (Some (Some c)) (Some nodes) e f =
+      let h : mapping_falls numbers sized.instances c (slice_get sized.mappings (d / 2)) ≡ true =
+      turned_falls core sized numbers d c (ap (λ ts. slice_get ts d) (sym low.called.turned_is) ∙ e) in
+      joined_fall numbers sized.instances c (nodes ∷ [])
+      (two (nodes_fall numbers sized.instances c nodes) (ap (mapping_falls numbers sized.instances c) (sym f) ∙ h))
+    where
+      two : (a : Bool) → a ≡ true → (a && true) ≡ true
+      two true h = refl
+      two false h = h
+
+  place_falls : (p : ℕ) → nodes_fall numbers sized.instances (at_place p) (nodes_of core sized m low p) ≡ true
+  place_falls p = by (slice_get sized.instances p) refl
+    where
+      by : (o : Option SizedInstance) → slice_get sized.instances p ≡ o
+          → nodes_fall numbers sized.instances (cycle_by numbers turned (p - length sized.instances) o)
+          (nodes_by sized turned (p - length sized.instances) o) ≡ true
       by None e =
-          none_is leads.leads.lead (sym (ap (λ o. present_lead leads.leads.noted (leads_at leads.leads.node (nodes_for o))) e) ∙ here)
+          let d : ℕ = p - length sized.instances in
+          way_falls d (slice_get turned d) (slice_get sized.mappings (d / 2)) refl refl
       by (Some z) e =
-          let own : ℕ = slice_index_or numbers z.instance.function 0 in
-          let r = called_there p i a f leads in
-          let down : cycle_at numbers sized.instances leads.leads.lead.instance ≤ own =
-          lead_falls numbers sized.instances own leads.leads.noted (leads_at leads.leads.node (joined_nodes z.bodies)) leads.leads.lead
-          (leads_there numbers sized.instances own (joined_nodes z.bodies) leads.leads.node
-          (joined_fall numbers sized.instances own z.bodies (caller_falls numbers sized.instances sized.instances p z low.called.falls e)))
-          (sym (ap (λ o. present_lead leads.leads.noted (leads_at leads.leads.node (nodes_for o))) e) ∙ here) in
-          let called : cycle_at numbers sized.instances leads.leads.lead.instance ≡ cycle_of x.m (x.function a.place) =
-          ap (cycle_at numbers sized.instances) leads.leads.place ∙ ap (number_there numbers) r.1 ∙ sym (entered_cycle a.place r.0 r.1) in
-          subst (λ n. n ≤ cycle_of x.m (x.function p)) called
-          (subst (λ n. cycle_at numbers sized.instances leads.leads.lead.instance ≤ n) (sym (entered_cycle p z e)) down)
+          joined_fall numbers sized.instances (slice_index_or numbers z.instance.function 0) z.bodies
+          (caller_falls numbers sized.instances sized.instances p z low.called.fit.falls e)
+
+  falls : (p i : ℕ) (a : Instance) (f : Function) → Leads x p a i f → at_place a.place ≤ at_place p
+  falls p i a f leads =
+      let nodes : List NodeSizes = nodes_of core sized m low p in
+      let r = called_there p i a f leads in
+      let here : present_lead leads.leads.noted (leads_at leads.leads.node nodes) ≡ Some leads.leads.lead =
+      ap (present_lead leads.leads.noted) (sym (of.leads p leads.leads.node)) ∙ leads.leads.there in
+      let down : cycle_at numbers sized.instances leads.leads.lead.instance ≤ at_place p =
+      lead_falls numbers sized.instances (at_place p) leads.leads.noted (leads_at leads.leads.node nodes) leads.leads.lead
+      (leads_there numbers sized.instances (at_place p) nodes leads.leads.node (place_falls p)) here in
+      subst (λ n. n ≤ at_place p)
+      (ap (cycle_at numbers sized.instances) leads.leads.place ∙ ap (number_there numbers) r.1 ∙ sym (instance_cycle a.place r.0 r.1)) down
+
+  -- a direction that may be called
+  crossed : (p d : ℕ) → x.crosses p d ≡ true → (c : ℕ) × (slice_get turned d ≡ Some (Some c)) × (c ≤ at_place p)
+  crossed p d h = turned_there (at_place p) (slice_get turned d) (sym (of.crosses p d) ∙ h)
+
+  direction_cycle : (d c : ℕ) → slice_get turned d ≡ Some (Some c) → at_place (x.way d) ≡ c
+  direction_cycle d c e =
+      ap at_place (of.way d) ∙ ap (cycle_by numbers turned (length sized.instances + d - length sized.instances)) (none_past sized.instances d)
+      ∙ ap (λ k. way_cycle (slice_get turned k)) (back (length sized.instances) d) ∙ ap way_cycle e
+
+  function_cycle : (d c : ℕ) → slice_get turned d ≡ Some (Some c) → cycle_of x.m (x.direction d).function ≡ c
+  function_cycle d c e =
+      let n : ℕ = 2 * length sized.instances in
+      let w : WayThere low.directions core.types d c = way_there low.directions core.types d c e in
+      let many : length low.functions ≡ n = low.instances.many ∙ ap (λ (z : SizedCore). 2 * length z.instances) low.is.of_sized in
+      ap (λ z. cycle_of z (x.direction d).function) of.module_is
+      ∙ ap (λ (z : Mapped). cycle_of m z.function) (of.direction d ∙ ap direction_in (ap (λ ms. slice_get ms d) low.entered ∙ w.entered))
+      ∙ ap (λ k. cycle_of m (k + w.at)) (sym many)
+      ∙ ap cycle_in (ap (λ fs. slice_get fs (length low.functions + w.at)) low.all ∙ get_past low.functions (low.ways ++ low.opened) w.at
+      ∙ got_before low.ways low.opened w.at w.code w.there)
+      ∙ w.is.taken.code.is.cycle ∙ w.is.taken.around.head_cycle ∙ w.owned
+
+  is_way : (p d : ℕ) → x.crosses p d ≡ true → cycle_of x.m (x.direction d).function ≡ at_place (x.way d)
+  is_way p d h =
+      let r = crossed p d h in
+      function_cycle d r.0 r.1 ∙ sym (direction_cycle d r.0 r.1)
+
+  falls_way : (p d : ℕ) → x.crosses p d ≡ true → at_place (x.way d) ≤ at_place p
+  falls_way p d h =
+      let r = crossed p d h in
+      subst (λ n. n ≤ at_place p) (sym (direction_cycle d r.0 r.1)) r.2
 
   pub stands : CyclesStand x
   stands = record {
     number = λ i. slice_index_or numbers i 0;
     is_number = is_number;
-    at_ = λ p. cycle_of x.m (x.function p);
-    is_at = λ p i a f leads. refl;
+    at_ = at_place;
+    is_at = is_at;
     falls = falls;
-    is_way = λ p d h. no (sym (of.crosses p d) ∙ h);
-    falls_way = λ p d h. no (sym (of.crosses p d) ∙ h);
+    is_way = is_way;
+    falls_way = falls_way;
     one = λ i j f g ef eg e. one_of (slice_index_or numbers i 0) (slice_index_or numbers j 0) f.cycle g.cycle
-        (low.called.fit.each i j f g (ap (λ fs. slice_get fs i) (sym of.functions) ∙ ef) (ap (λ fs. slice_get fs j) (sym of.functions) ∙ eg)) e;
+        (low.called.fit.cycles.each i j f g (ap (λ fs. slice_get fs i) (sym of.functions) ∙ ef) (ap (λ fs. slice_get fs j) (sym of.functions) ∙ eg)) e;
     all = λ i j c f g ef eg cf cg. all_of (slice_index_or numbers i 0) (slice_index_or numbers j 0) c f.cycle g.cycle
-        (low.called.fit.each i j f g (ap (λ fs. slice_get fs i) (sym of.functions) ∙ ef) (ap (λ fs. slice_get fs j) (sym of.functions) ∙ eg)) cf cg;
+        (low.called.fit.cycles.each i j f g (ap (λ fs. slice_get fs i) (sym of.functions) ∙ ef) (ap (λ fs. slice_get fs j) (sym of.functions) ∙ eg)) cf cg;
   }
