@@ -1,6 +1,6 @@
 -- Of one node's number and count of operands a body's tables say what values are made once, as its notes do.
-use Rattle.std.proofs.Common.{◌≡◌, ◌∙◌, ℕ, nat_eq, ℤ, Bool, true, false, not, List, [], ◌∷◌, ◌++◌, length, map, Option, Some, None, refl, sym, ap, subst}
-use Rattle.std.proofs.Common.{eq-eqb, eqb-true}
+use Rattle.std.proofs.Common.{◌≡◌, ◌∙◌, ℕ, zero, suc, nat_eq, ℤ, Bool, true, false, not, List, [], ◌∷◌, ◌++◌, length, map, Option, Some, None, refl, sym, ap}
+use Rattle.std.proofs.Common.{eq-eqb, eqb-true, subst}
 use Rattle.std.specs.Prelude.{◌&&◌, ◌||◌, slice_get, option_map, Ok}
 use Rattle.std.specs.List.{list_all}
 use Rattle.std.proofs.lemmas.Bool.{and_parts}
@@ -9,9 +9,11 @@ use Rattle.std.proofs.lemmas.Option.{slice_get-map}
 use Rattle.sail_types.specs.Places.{only}
 use Rattle.sail_types.specs.declared.table.Types.{Types}
 use Rattle.sail_core.specs.declared.model.CoreModel.{CoreModel}
+use Rattle.sail_core.specs.declared.model.Direction.{Direction}
 use Rattle.sail_core.specs.declared.model.Function.{Function}
 use Rattle.sail_core.specs.declared.model.Opening.{Opening}
 use Rattle.sail_core.specs.declared.tree.Callee.TheVariants as D
+use Rattle.mappings.specs.Rewriting.{free_function, free_opening, without_mappings}
 use Rattle.match_rewrite.specs.Rewriting.{flat_function, flat_opening, with_flat_arms}
 use Rattle.value_indices.specs.declared.indices.Indices.{Indices}
 use Rattle.value_indices.specs.declared.notes.Fact.{Fact}
@@ -20,13 +22,14 @@ use Rattle.value_indices.specs.Steps.{Note, call_note, given_note, goal_note, ma
 use Rattle.size_values.specs.declared.sized.Sized.{Sized}
 use Rattle.size_splits.specs.Bodies.{Body}
 use Rattle.size_splits.specs.Sizing.{Sizing}
-use Rattle.size_notes.specs.Bodies.{bodies_of, function_bodies, opening_body}
+use Rattle.size_notes.specs.Bodies.{bodies_of, body_of, function_bodies, mapping_bodies, mapping_read, opening_body}
 use Rattle.constraint_gen.specs.Models.{around_of, around_opening, around_with}
 use Rattle.pattern_leaves.specs.Settings.{Around}
 use Rattle.sized_nodes.specs.declared.trees.Instance.{Instance}
 use Rattle.monomorph.specs.Instances.{model_of, or_none}
 use Rattle.monomorph.specs.Lasts.{Model}
 use Rattle.monomorph.specs.Reading.{Inside}
+use Rattle.met_notes.specs.Met.{Pair, pairs}
 use Rattle.node_counts.specs.Told.{NoteIn, all_noted, are_alike, are_apart, is_apart}
 use Rattle.node_counts.proofs.Apart.{notes_are_apart}
 use Rattle.sized_trees.specs.declared.combinations.Choice.{Choice}
@@ -173,10 +176,11 @@ module _ (types : Types) (sizing : Sizing) (zs : List (Option ℤ)) (own : List 
 
 -- ---- instances and openings of a core
 
--- of one node's number and count of operands the tables of instances of functions that are there, and of openings, say what values are made once
+-- of one node's number and count of operands the tables of instances of functions that are there, of mappings and of openings say what values are made once
 pub record AllAlone (core : CoreModel) (sized : SizedCore) : Type 0 where
   pub instance : (p : ℕ) (s : SizedInstance) (f : Function) → slice_get sized.instances p ≡ Some s → slice_get core.functions s.instance.function ≡ Some f
       → leads_alone (joined_nodes s.bodies) ≡ true → EachAlone (joined_nodes s.bodies)
+  pub mapping : (i : ℕ) (nodes : List NodeSizes) → slice_get sized.mappings i ≡ Some nodes → leads_alone nodes ≡ true → EachAlone nodes
   pub opening : (i : ℕ) (o : Opening) (nodes : List NodeSizes) → slice_get core.openings i ≡ Some o → slice_get sized.openings i ≡ Some nodes
       → leads_alone nodes ≡ true → EachAlone nodes
 
@@ -195,6 +199,18 @@ mapped_there {A} {B} f xs i y e = by (slice_get xs i) refl
     by : (o : Option A) → slice_get xs i ≡ o → (x : A) × (slice_get xs i ≡ Some x)
     by None h = none y (sym (slice_get-map f xs i ∙ ap (option_map f) h) ∙ e)
     by (Some x) h = (x, h)
+
+-- the body of a mapping is that of its two directions
+pair_there : (around : Around) (ds : List Direction) (i : ℕ) (b : Body) → slice_get (mapping_bodies around ds) i ≡ Some b
+    → (p : Pair) × (slice_get (pairs ds) i ≡ Some p) × (b ≡ body_of (mapping_read around p.forwards p.backwards))
+pair_there around [] i b e = none b e
+pair_there around (d ∷ []) i b e = none b e
+pair_there around (d ∷ n ∷ ds) zero b e = (
+  record { forwards = d; backwards = n },
+  refl,
+  sym (some_same (body_of (mapping_read around d n)) b e),
+)
+pair_there around (d ∷ n ∷ ds) (suc i) b e = pair_there around ds i b e
 
 module _ (m : CoreModel) (c : SizedCore) (apart : NumbersApart m) (found : sized_core m ≡ Ok c) where
   abbrev model : Model
@@ -223,6 +239,28 @@ module _ (m : CoreModel) (c : SizedCore) (apart : NumbersApart m) (found : sized
       (made_alone m.types model.sizing y.numbers y.types list noted
       ((notes_are_apart (around_of m)).function f (apart.functions s.instance.function f is)))) h
 
+  mapping_alone : (i : ℕ) (nodes : List NodeSizes) → slice_get c.mappings i ≡ Some nodes → leads_alone nodes ≡ true → EachAlone nodes
+  mapping_alone i nodes e h = by (slice_get model.bodies.mappings i) refl
+    where
+      there : slice_get c.mappings i ≡ option_map (sized_body model list [] []) (slice_get model.bodies.mappings i)
+      there =
+          ap (λ (d : SizedCore). slice_get d.mappings i) (accepted m c found).2
+          ∙ slice_get-map (sized_body model list [] []) model.bodies.mappings i
+
+      by : (o : Option Body) → slice_get model.bodies.mappings i ≡ o → EachAlone nodes
+      by None f = none nodes (sym (there ∙ ap (option_map (sized_body model list [] [])) f) ∙ e)
+      by (Some b) f =
+          let p = pair_there (around_of m) m.directions i b f in
+          let whole : all_noted (b ∷ []) ≡ all_noted (body_of (mapping_read (around_of m) p.0.forwards p.0.backwards) ∷ []) =
+          ap (λ (x : Body). all_noted (x ∷ [])) p.2 in
+          let same : nodes ≡ all_nodes m.types model.sizing [] [] list (all_noted (b ∷ [])) =
+          some_same nodes (sized_body model list [] [] b) (sym e ∙ there ∙ ap (option_map (sized_body model list [] [])) f)
+          ∙ alone_there model list [] [] b in
+          each_alone nodes
+          (subst MakesAlone (sym same)
+          (made_alone m.types model.sizing [] [] list (all_noted (b ∷ []))
+          (ap are_apart whole ∙ (notes_are_apart (around_of m)).mapping p.0.forwards p.0.backwards (apart.mappings i p.0 p.1)))) h
+
   opening_alone : (i : ℕ) (o : Opening) (nodes : List NodeSizes) → slice_get m.openings i ≡ Some o → slice_get c.openings i ≡ Some nodes
       → leads_alone nodes ≡ true → EachAlone nodes
   opening_alone i o nodes is e h =
@@ -238,13 +276,16 @@ module _ (m : CoreModel) (c : SizedCore) (apart : NumbersApart m) (found : sized
       (subst MakesAlone (sym same)
       (made_alone m.types model.sizing [] [] list (all_noted (b ∷ [])) ((notes_are_apart around).opening o (apart.openings i o is)))) h
 
-  -- of the core with flat arms: its functions and openings stand where those of the core do
-  pub all_alone : AllAlone (with_flat_arms m) c
+  -- of the core without mappings and with flat arms: its functions and openings stand where those of the core do
+  pub all_alone : AllAlone (with_flat_arms (without_mappings m)) c
   all_alone = record {
     instance = λ p s f e is h.
-        let g = mapped_there flat_function m.functions s.instance.function f is in
-        instance_alone p s g.0 e g.1 h;
+        let g = mapped_there flat_function (map free_function m.functions) s.instance.function f is in
+        let k = mapped_there free_function m.functions s.instance.function g.0 g.1 in
+        instance_alone p s k.0 e k.1 h;
+    mapping = mapping_alone;
     opening = λ i o nodes is e h.
-        let g = mapped_there flat_opening m.openings i o is in
-        opening_alone i g.0 nodes g.1 e h;
+        let g = mapped_there flat_opening (map free_opening m.openings) i o is in
+        let k = mapped_there free_opening m.openings i g.0 g.1 in
+        opening_alone i k.0 nodes k.1 e h;
   }

@@ -1,5 +1,5 @@
 -- What the code of a function of a module is made with, by what it is made of.
-use Rattle.std.proofs.Common.{◌≡◌, ◌∙◌, ℕ, ℤ, Bool, List, [], Option, refl, ap}
+use Rattle.std.proofs.Common.{◌≡◌, ◌∙◌, ℕ, ℤ, Bool, true, List, [], Option, refl, ap, sym}
 use Rattle.std.specs.Prelude.{is_some, slice_get, slice_index_or}
 use Rattle.sail_types.specs.declared.numbers.Con.{Con}
 use Rattle.sail_types.specs.declared.numbers.Num.{Num}
@@ -18,7 +18,12 @@ use Rattle.lowered_pieces.specs.Lowering.{Node, kit_of, node}
 use Rattle.lowered_pieces.specs.Nodes.{tables_of}
 use Rattle.lowered_pieces.specs.Places.{Kit, Naming}
 use Rattle.lowered_pieces.specs.Tables.{Tables}
-use Rattle.lowered_steps.specs.Setting.{kit_for, size_for, tables_for}
+use Rattle.lowered_steps.specs.Setting.{kit_for, reads_at, size_for, tables_for, with_reads}
+use Rattle.lowered_laws.specs.Crossings.{crosses_within}
+use Rattle.lowered_laws.specs.Telling.{Tells}
+use Rattle.lowered_laws.proofs.Crossings.{crossings_known}
+use Rattle.checked_meaning.specs.Checked.{Cases}
+use Rattle.lowered_steps.specs.declared.setting.Reads.{Reads}
 use Rattle.lowered_steps.specs.declared.setting.Setting.{Setting}
 use Rattle.lowered_ends.specs.Around.{answer_in, called_number, callees_of, direction_in, node_for}
 use Rattle.lowered_ends.specs.declared.around.Around.{Around}
@@ -47,28 +52,59 @@ module _ (core : CoreModel) (sized : SizedCore) (m : Module) (low : FlatFrom cor
   abbrev pub kit_by : List (Option ℤ) → Naming → Kit
   kit_by zs name = kit_of core.types name (type_in ss) m.exception (size_by zs)
 
-  abbrev pub callees_by : List (Option ℤ) → List Sized → List ℕ → Callees
-  callees_by zs given openings = record {
+  -- where these are the directions of mappings, and such may be called
+  abbrev pub callees_with : List Mapped → (ℕ → Bool) → List (Option ℤ) → List Sized → List ℕ → Callees
+  callees_with directions crosses zs given openings = record {
     function = called_number;
     answer = λ p. answer_in (slice_get sized.instances p);
     size = size_by zs;
     truth = truth_by zs;
     given = given;
     opening = λ i. slice_index_or openings i 0;
-    direction = λ d. direction_in (slice_get no_directions d);
-    crosses = λ d. is_some (slice_get no_directions d);
+    direction = λ d. direction_in (slice_get directions d);
+    crosses = crosses;
   }
 
-  abbrev pub tables_by : List NodeSizes → Tables
-  tables_by nodes = tables_of (is_known ss) sized.instances nodes
+  -- every one that is there
+  abbrev pub every : List Mapped → ℕ → Bool
+  every directions d = is_some (slice_get directions d)
 
-  abbrev pub node_by : List (Option ℤ) → List Sized → List ℕ → List NodeSizes → Naming → Core → Node
-  node_by zs given openings nodes name c = node core.types (kit_by zs name) (type_in ss) (callees_by zs given openings) (tables_by nodes) c
+  abbrev pub callees_by : List (Option ℤ) → List Sized → List ℕ → Callees
+  callees_by = callees_with no_directions (every no_directions)
+
+  -- where variables are read at these types
+  abbrev pub tables_by : List Reads → List NodeSizes → Tables
+  tables_by told nodes = with_reads (reads_at told) (tables_of (is_known ss) sized.instances nodes)
+
+  abbrev pub node_with : List Mapped → (ℕ → Bool) → List (Option ℤ) → List Sized → List ℕ → List Reads → List NodeSizes → Naming → Core → Node
+  node_with directions crosses zs given openings told nodes name c =
+      node core.types (kit_by zs name) (type_in ss) (callees_with directions crosses zs given openings) (tables_by told nodes) c
+
+  -- of openings, where no direction is called
+  abbrev pub node_by : List (Option ℤ) → List Sized → List ℕ → List Reads → List NodeSizes → Naming → Core → Node
+  node_by = node_with no_directions (every no_directions)
+
+  -- of instances and of directions, where such may be called
+  abbrev pub node_at : (ℕ → Bool) → List (Option ℤ) → List Sized → List ℕ → List Reads → List NodeSizes → Naming → Core → Node
+  node_at = node_with low.model.directions.now
+
+  -- which of them may be called is the same, where each is that is
+  pub crossed_same : (p q : ℕ → Bool) (zs : List (Option ℤ)) (given : List Sized) (openings : List ℕ) (told : List Reads) (nodes : List NodeSizes)
+      (name : Naming) (c : Core) → crosses_within p c ≡ true → crosses_within q c ≡ true
+      → node_at p zs given openings told nodes name c ≡ node_at q zs given openings told nodes name c
+  crossed_same p q zs given openings told nodes name c h k =
+      sym (crossings_known core.types (kit_by zs name) (type_in ss) (callees_with low.model.directions.now p zs given openings) (tables_by told nodes) p c h)
+      ∙ crossings_known core.types (kit_by zs name) (type_in ss) (callees_with low.model.directions.now p zs given openings) (tables_by told nodes) q c k
+
+  -- the meaning goes by them
+  pub tells_read : (told : List Reads) (nodes : List NodeSizes) (cases : Cases) → Tells core.types (tables_of (is_known ss) sized.instances nodes) cases
+      → Tells core.types (tables_by told nodes) cases
+  tells_read told nodes cases tells = record { makes = tells.makes; notes = tells.notes; names = tells.names; calls = tells.calls }
 
   -- ---- so is what its code was made with
 
   module _ (model : Model) (mo : ModelOf core sized low.table m model) (bodies : List (List NodeSizes)) (zs : List (Option ℤ)) (setting : Setting)
-      (s : SettingOf model bodies zs setting) where
+      {told : List Reads} (s : SettingOf model bodies zs told setting) where
     pub types_same : setting.types.now ≡ core.types
     types_same = s.types ∙ ap (λ (c : CoreModel). c.types) mo.of_core
 
@@ -83,12 +119,13 @@ module _ (core : CoreModel) (sized : SizedCore) (m : Module) (low : FlatFrom cor
         kit_here core sized m low model mo bodies zs setting s name m.exception refl
         ∙ (λ j. kit_of (types_same j) name (type_in (numbers_same j)) m.exception (size_same j))
 
-    pub tables_same : (instances : List SizedInstance) → instances ≡ sized.instances → tables_for setting instances ≡ tables_by (joined_nodes bodies)
-    tables_same instances e = λ j. tables_of (is_known (numbers_same j)) (e j) (joined_nodes (s.bodies_are j))
+    pub tables_same : (instances : List SizedInstance) → instances ≡ sized.instances → tables_for setting instances ≡ tables_by told (joined_nodes bodies)
+    tables_same instances e = λ j. with_reads (reads_at (s.reads_are j)) (tables_of (is_known (numbers_same j)) (e j) (joined_nodes (s.bodies_are j)))
 
     module _ (around : Around) (given : List Sized) (openings : List ℕ) (of_instances : around.instances.now ≡ sized.instances)
-        (of_given : around.given.now ≡ given) (of_openings : around.openings.now ≡ openings) (of_directions : around.directions.now ≡ no_directions) where
-      callees_same : callees_of setting around ≡ callees_by zs given openings
+        (of_given : around.given.now ≡ given) (of_openings : around.openings.now ≡ openings) {directions : List Mapped}
+        (of_directions : around.directions.now ≡ directions) where
+      callees_same : callees_of setting around ≡ callees_with directions (every directions) zs given openings
       callees_same = λ j. record {
         function = called_number;
         answer = λ p. answer_in (slice_get (of_instances j) p);
@@ -97,9 +134,10 @@ module _ (core : CoreModel) (sized : SizedCore) (m : Module) (low : FlatFrom cor
         given = of_given j;
         opening = λ i. slice_index_or (of_openings j) i 0;
         direction = λ d. direction_in (slice_get (of_directions j) d);
-        crosses = λ d. is_some (slice_get (of_directions j) d);
+        crosses = every (of_directions j);
       }
 
-      pub node_same : (name : Naming) (c : Core) → node_for setting around name c ≡ node_by zs given openings (joined_nodes bodies) name c
+      pub node_same : (name : Naming) (c : Core)
+          → node_for setting around name c ≡ node_with directions (every directions) zs given openings told (joined_nodes bodies) name c
       node_same name c = λ j. node (types_same j) (kit_same name j) (type_in (numbers_same j)) (callees_same j)
           (tables_same around.instances.now of_instances j) c

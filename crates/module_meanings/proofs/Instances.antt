@@ -1,6 +1,6 @@
 -- Both functions of an instance are the code of the instance: what may be entered has its code.
 use Rattle.std.proofs.Common.{◌≡◌, ◌∙◌, ℕ, zero, suc, ◌+◌, ℤ, Bool, true, false, List, [], ◌∷◌, Option, Some, None, refl, sym, ap, subst}
-use Rattle.std.specs.Prelude.{◌*◌, option_map, slice_get}
+use Rattle.std.specs.Prelude.{◌*◌, ◌-◌, ◌++◌, ◌&&◌, length, option_map, slice_get}
 use Rattle.std.proofs.lemmas.Bool.{and_parts}
 use Rattle.sail_types.specs.Sums.{and_then}
 use Rattle.sail_types.specs.declared.values.Value.{Value}
@@ -18,7 +18,7 @@ use Rattle.sized_nodes.specs.declared.trees.Signature.{Signature}
 use Rattle.sized_nodes.specs.declared.trees.SizedCore.{SizedCore}
 use Rattle.sized_nodes.specs.declared.trees.SizedInstance.{SizedInstance}
 use Rattle.sized_meanings.specs.Present.{gives_at}
-use Rattle.sized_meanings.specs.Sized.{entering, joined_nodes, nodes_for, noted_cases_of, numbers_of}
+use Rattle.sized_meanings.specs.Sized.{entering, joined_nodes, noted_cases_of, numbers_of}
 use Rattle.jib.specs.Jib.{code_in, code_of, slots_in, slots_of}
 use Rattle.jib.specs.declared.code.Function.{Function as Code}
 use Rattle.jib.specs.declared.code.Instruction.{Instruction}
@@ -35,10 +35,15 @@ use Rattle.lowered_pieces.specs.Nodes.{awaited_in, cases_at, function_in}
 use Rattle.lowered_pieces.specs.Places.{HasSlots, Kit, Names, Naming}
 use Rattle.lowered_laws.proofs.TablesTelling.{noted_tell}
 use Rattle.lowered_steps.specs.Setting.{kit_for, nodes_in}
+use Rattle.lowered_steps.specs.declared.setting.Reads.{Reads}
 use Rattle.lowered_steps.specs.declared.setting.Setting.{Setting}
 use Rattle.lowered_ends.specs.Around.{node_for}
 use Rattle.lowered_ends.specs.declared.around.Around.{Around}
 use Rattle.lowered_functions.specs.Made.{CodeMade, called_for, event_for}
+use Rattle.lowered_typed.specs.Here as Here
+use Rattle.lowered_typed.specs.Judging.{callees_here, number_here, signs_here, tables_here, turned_in, typed}
+use Rattle.lowered_typed.specs.declared.signs.Called.{Called}
+use Rattle.lowered_laws.specs.Crossings.{crosses_within}
 use Rattle.lowered_laws.specs.Modules.{AllLowered, AllTick, EventsLowered, Lowered, Made, Shape, event_shape}
 use Rattle.lowered_laws.specs.Telling.{Tells}
 use Rattle.lowered_laws.specs.KnownLaws.{AreTold, IsRead}
@@ -46,16 +51,20 @@ use Rattle.lowered_laws.proofs.ToldArguments.{arguments_told}
 use Rattle.lowered_laws.proofs.ReadInstances.{instances_read}
 use Rattle.lowered_laws.proofs.KnownSizes.{sizes_known}
 use Rattle.lowered_laws.proofs.KnownTruths.{truths_known}
-use Rattle.jib_lower.specs.Functions.{FunctionMade, able_for}
+use Rattle.jib_lower.specs.Functions.{FunctionMade, able_for, typed_for}
 use Rattle.jib_lower.specs.Instances.{MadeAt}
 use Rattle.jib_lower.specs.Lowered.{FlatFrom}
+use Rattle.jib_lower.specs.Reads.{function_reads}
 use Rattle.jib_lower.specs.Types.{all_in_bodies, all_in_cases, all_in_told, in_signature}
 use Rattle.jib_lower.proofs.Basics.{basic_of, got_before}
 use Rattle.jib_lower.proofs.Placing.{basics, exception_here}
 use Rattle.module_meanings.proofs.Alone.{AllAlone}
-use Rattle.module_meanings.proofs.Around.{kit_by, kit_same, node_by, node_same, numbers_same, size_by, tables_by, truth_by}
+use Rattle.module_cycles.specs.Laws.{cycle_by, cycle_there, may_cross, nodes_by, nodes_of}
+use Rattle.module_meanings.proofs.Around.{crossed_same, every, kit_by, kit_same, node_at, node_same, numbers_same, size_by, tables_by, tells_read, truth_by}
+use Rattle.module_meanings.proofs.Crossed.{crosses_wider, right_crosses}
 use Rattle.module_meanings.proofs.Known.{all_had, bodies_there, instance_there, stands}
-use Rattle.module_meanings.proofs.Made.{AreLets, called_slots, event_slots, made_at, module_of, name_of, nodes_at, numbers_at, numbers_in, slots_by}
+use Rattle.module_meanings.proofs.Made.{AreLets, called_slots, event_slots, every_crossed, made_at, module_of, name_of, numbers_at, numbers_in}
+use Rattle.module_meanings.proofs.Made.{reads_by, reads_for, slots_by, variables_at}
 use Rattle.module_meanings.proofs.Made.{slots_from}
 use Rattle.module_meanings.proofs.Slots.{given_place, has_slots, names_apart, typs_of}
 
@@ -64,6 +73,10 @@ none x e = cc
 
 some_same : {A : Type 0} (x y : A) → Some x ≡ Some y → x ≡ y
 some_same x y e = cc
+
+and_first : (a b : Bool) → (a && b) ≡ true → a ≡ true
+and_first true b h = refl
+and_first false b h = h
 
 get_typ : (xs : List Item) (j : ℕ) (x : Item) → slice_get xs j ≡ Some x → slice_get (typs xs) j ≡ Some x.typ
 get_typ [] j x e = none x e
@@ -79,7 +92,7 @@ module _ (core : CoreModel) (sized : SizedCore) (m : Module) (low : FlatFrom cor
   ss = low.table.numbered
 
   function_there : (k : ℕ) (f : Code) → slice_get low.functions k ≡ Some f → slice_get m.functions k ≡ Some f
-  function_there k f e = ap (λ fs. slice_get fs k) low.all ∙ got_before low.functions low.opened k f e
+  function_there k f e = ap (λ fs. slice_get fs k) low.all ∙ got_before low.functions (low.ways ++ low.opened) k f e
 
   -- ---- the instance at a place, as a function of the core
 
@@ -98,13 +111,24 @@ module _ (core : CoreModel) (sized : SizedCore) (m : Module) (low : FlatFrom cor
     zs = numbers_at core sized m low p
 
     abbrev nodes : List NodeSizes
-    nodes = nodes_at core sized m low p
+    nodes = nodes_of core sized m low p
+
+    abbrev cross : ℕ → Bool
+    cross = may_cross core sized m low p
+
+    abbrev variables : List Reads
+    variables = variables_at core sized m low p
 
     function_is : at.function ≡ f
     function_is = some_same at.function f (sym at.found ∙ ap (λ (c : CoreModel). slice_get c.functions y.instance.function) low.is.of_core ∙ is)
 
     nodes_is : joined_nodes y.bodies ≡ nodes
-    nodes_is = ap nodes_for (sym e)
+    nodes_is = ap (nodes_by sized low.model.turned.now (p - length sized.instances)) (sym e)
+
+    variables_is : function_reads y.bodies at.function ≡ variables
+    variables_is =
+        ap (function_reads y.bodies) function_is ∙ ap (reads_by core sized m low y.bodies) (sym is)
+        ∙ ap (reads_for core sized m low (p - length sized.instances)) (sym e)
 
     numbers_is : y.instance.numbers ≡ zs
     numbers_is = ap (numbers_in core sized m low) (sym e)
@@ -114,6 +138,21 @@ module _ (core : CoreModel) (sized : SizedCore) (m : Module) (low : FlatFrom cor
 
     in_nodes : nodes_in setting ≡ nodes
     in_nodes = ap joined_nodes at.setting.bodies_are ∙ nodes_is
+
+    -- its trees call such directions alone as it may
+
+    signed : (λ d. turned_in at.judge.signs.now.cycle (slice_get at.judge.signs.now.turned.now d)) ≡ cross
+    signed =
+        let q = low.called.each p y e in
+        let cycle : at.judge.signs.now.cycle ≡ cycle_there core sized m low p =
+        at.signs.cycle_is ∙ ap (λ (c : Called). c.cycle) (some_same at.called_is q.0 (sym at.enters ∙ q.1)) ∙ q.2.cycle
+        ∙ ap (cycle_by low.called.cycles low.model.turned.now (p - length sized.instances)) (sym e) in
+        λ j d. turned_in (cycle j) (slice_get (at.signs.turned j) d)
+
+    within : (c : Core) → (typed at.judge c).right ≡ true → crosses_within cross c ≡ true
+    within c h =
+        subst (λ g. crosses_within g c ≡ true) signed
+        (right_crosses at.judge.setting.now.types.now (number_here at.judge) (callees_here at.judge) (tables_here at.judge) (signs_here at.judge) c h)
 
     kit_is : (name : Naming) → kit_for setting name ≡ kit_by core sized m low zs name
     kit_is name =
@@ -137,13 +176,16 @@ module _ (core : CoreModel) (sized : SizedCore) (m : Module) (low : FlatFrom cor
       given_is = at.around.given ∙ sym told.types_are
 
       abbrev there : Naming → Core → Node
-      there = node_by core sized m low zs (typs xs) low.model.openings.now nodes
+      there = node_at core sized m low cross zs (typs xs) low.model.openings.now variables nodes
 
-      node_is : (name : Naming) (c : Core) → node_for setting around name c ≡ there name c
-      node_is name c =
+      node_is : (name : Naming) (c : Core) → crosses_within cross c ≡ true → node_for setting around name c ≡ there name c
+      node_is name c h =
           node_same core sized m low low.model low.is y.bodies y.instance.numbers setting at.setting around (typs xs) low.model.openings.now
           (at.around.instances ∙ ap (λ (z : SizedCore). z.instances) low.is.of_sized) given_is at.around.openings at.around.directions name c
-          ∙ (λ j. node_by core sized m low (numbers_is j) (typs xs) low.model.openings.now (nodes_is j) name c)
+          ∙ (λ j. node_at core sized m low (every core sized m low low.model.directions.now) (numbers_is j) (typs xs) low.model.openings.now (variables_is j)
+          (nodes_is j) name c)
+          ∙ crossed_same core sized m low (every core sized m low low.model.directions.now) cross zs (typs xs) low.model.openings.now variables nodes name c
+          (crosses_wider cross (every core sized m low low.model.directions.now) (every_crossed core sized m low p) c h) h
 
       able : (name : Naming) → able_for at.walk name f ≡ true
       able name = subst (λ (g : Function). able_for at.walk name g ≡ true) function_is (at.made.able name)
@@ -151,18 +193,40 @@ module _ (core : CoreModel) (sized : SizedCore) (m : Module) (low : FlatFrom cor
       abbrev measure : Option Core
       measure = measure_of f.cycle f.measure
 
+      both_typed : (all_in (λ c. (typed at.judge c).right) measure ≡ true) × (Here.result_right at.judge f.last (typed at.judge f.body) ≡ true)
+      both_typed =
+          and_parts (all_in (λ c. (typed at.judge c).right) measure) (Here.result_right at.judge f.last (typed at.judge f.body))
+          (subst (λ (g : Function). typed_for at.judge g ≡ true) function_is at.made.typed)
+
+      body_within : crosses_within cross f.body ≡ true
+      body_within = within f.body (and_first (typed at.judge f.body).right _ both_typed.1)
+
+      measure_within : (o : Option Core) → all_in (λ c. (typed at.judge c).right) o ≡ true → all_in (crosses_within cross) o ≡ true
+      measure_within None h = refl
+      measure_within (Some c) h = within c h
+
+      measure_cross : all_in (crosses_within cross) measure ≡ true
+      measure_cross = measure_within measure both_typed.0
+
       both_able : (name : Naming)
           → (all_in (λ c. (node_for setting around name c).ok) measure ≡ true) × ((node_for setting around name f.body).ok ≡ true)
       both_able name = and_parts (all_in (λ c. (node_for setting around name c).ok) measure) (node_for setting around name f.body).ok (able name)
 
       body_able : (name : Naming) → (there name f.body).ok ≡ true
-      body_able name = ap (λ (n : Node). n.ok) (sym (node_is name f.body)) ∙ (both_able name).1
+      body_able name = ap (λ (n : Node). n.ok) (sym (node_is name f.body body_within)) ∙ (both_able name).1
 
-      able_same : (name : Naming) → ◌≡◌ {A = Core → Bool} (λ c. (node_for setting around name c).ok) (λ c. (there name c).ok)
-      able_same name = λ j c. (node_is name c j).ok
+      measure_ok : (name : Naming) (o : Option Core) → all_in (crosses_within cross) o ≡ true → all_in (λ c. (node_for setting around name c).ok) o ≡ true
+          → all_in (λ c. (there name c).ok) o ≡ true
+      measure_ok name None h k = refl
+      measure_ok name (Some c) h k = ap (λ (n : Node). n.ok) (sym (node_is name c h)) ∙ k
 
       measure_able : (name : Naming) → all_in (λ c. (there name c).ok) measure ≡ true
-      measure_able name = ap (λ (g : Core → Bool). all_in g measure) (sym (able_same name)) ∙ (both_able name).0
+      measure_able name = measure_ok name measure measure_cross (both_able name).0
+
+      measure_piece : (name : Naming) (o : Option Core) → all_in (crosses_within cross) o ≡ true
+          → option_map (λ c. (node_for setting around name c).piece) o ≡ option_map (λ c. (there name c).piece) o
+      measure_piece name None h = refl
+      measure_piece name (Some c) h = ap (λ (n : Node). Some n.piece) (node_is name c h)
 
       -- its code
 
@@ -172,14 +236,14 @@ module _ (core : CoreModel) (sized : SizedCore) (m : Module) (low : FlatFrom cor
 
       called_is : (name : Naming) → called_for at.walk name f
           ≡ called_code (kit_by core sized m low zs name) f.place (option_map (λ c. (there name c).piece) measure) (result_there name)
-      called_is name = λ j. called_code (kit_is name j) f.place (option_map (λ c. (node_is name c j).piece) measure)
+      called_is name = λ j. called_code (kit_is name j) f.place (measure_piece name measure measure_cross j)
           (cast_piece (kit_is name j) (type_in (types_is j)) (cases_at f.last 1 (in_nodes j)) (gives_at (in_nodes j) (G.Node f.last))
-          (node_is name f.body j).piece)
+          (node_is name f.body body_within j).piece)
 
       event_is : (name : Naming) → event_for at.walk name f ≡ event_code (kit_by core sized m low zs name) f.place (result_there name)
       event_is name = λ j. event_code (kit_is name j) f.place
           (cast_piece (kit_is name j) (type_in (types_is j)) (cases_at f.last 1 (in_nodes j)) (gives_at (in_nodes j) (G.Node f.last))
-          (node_is name f.body j).piece)
+          (node_is name f.body body_within j).piece)
 
       -- a function of the module that has this code
 
@@ -224,11 +288,13 @@ module _ (core : CoreModel) (sized : SizedCore) (m : Module) (low : FlatFrom cor
             (and_parts (all_in_told ss at.signature.parameters) (all_in_cases ss at.signature.result.cases)
             (ap (in_signature ss) (sym at.plain.signed) ∙ in_types.0)).0
 
-        tells_so : Tells core.types (tables_by core sized m low nodes) (noted_cases_of core.types sized.instances (joined_nodes y.bodies))
+        tells_so : Tells core.types (tables_by core sized m low variables nodes) (noted_cases_of core.types sized.instances (joined_nodes y.bodies))
         tells_so =
-            subst (λ ns. Tells core.types (tables_by core sized m low ns) (noted_cases_of core.types sized.instances (joined_nodes y.bodies))) nodes_is
+            subst (λ ns. Tells core.types (tables_by core sized m low variables ns) (noted_cases_of core.types sized.instances (joined_nodes y.bodies)))
+            nodes_is
+            (tells_read core sized m low variables (joined_nodes y.bodies) (noted_cases_of core.types sized.instances (joined_nodes y.bodies))
             (noted_tell core.types (is_known ss) sized.instances (joined_nodes y.bodies)
-            (apart.instance p y f e is (low.alone p y e)) (bodies_there ss y.bodies in_types.1))
+            (apart.instance p y f e is (low.alone p y e)) (bodies_there ss y.bodies in_types.1)))
 
         pub lowered : (shape : Shape x)
             → code_of m q ≡ shape kit_here f.place (option_map (λ c. (there name c).piece) measure) (result_there name)

@@ -1,7 +1,8 @@
 -- The openings of a module that are worked out one after the other hold the values of the names of top-level lets, or stop as those of the core do.
 use Rattle.std.proofs.Common.{◌≡◌, ◌∙◌, ℕ, zero, suc, ◌+◌, ℤ, Bool, true, false, List, [], ◌∷◌, ◌++◌, length, map, Option, Some, None, refl, sym, ap, subst}
 use Rattle.std.proofs.Common.{arith, append-nil, if◌then◌else◌}
-use Rattle.std.specs.Prelude.{◌*◌, nat_eq, slice_get, slice_index_or}
+use Rattle.std.proofs.lemmas.Bool.{and_parts}
+use Rattle.std.specs.Prelude.{◌*◌, ◌&&◌, nat_eq, slice_get, slice_index_or}
 use Rattle.sail_base.specs.declared.place.Place.{Place as TextPlace}
 use Rattle.sail_types.specs.declared.numbers.Num.{Num}
 use Rattle.sail_types.specs.declared.values.Value.{Value}
@@ -27,6 +28,7 @@ use Rattle.sail_core.specs.declared.model.OpeningKind.{OpeningKind}
 use Rattle.sail_core.specs.declared.model.OpeningKind.TheVariants as K
 use Rattle.sail_core.specs.declared.patterns.Arm.{Arm}
 use Rattle.sail_core.specs.declared.patterns.Arm.TheVariants as A
+use Rattle.sail_core.specs.declared.patterns.Step.TheVariants as Step_
 use Rattle.sail_core.specs.declared.patterns.Step.{Step}
 use Rattle.size_values.specs.declared.sized.Sized.{Sized}
 use Rattle.checked_meaning.specs.Checked.{checked, checking}
@@ -45,7 +47,7 @@ use Rattle.jib.specs.declared.code.Opening.{Opening as CodeOpening}
 use Rattle.jib_laws.proofs.AlikeLaws.{pure_runs_alike}
 use Rattle.lowered_types.specs.Table.{is_known}
 use Rattle.lowered_slots.specs.Slots.{name_in}
-use Rattle.lowered_pieces.specs.Arms.{arm_hand, arm_lowered, held_at, steps_in, steps_lowered}
+use Rattle.lowered_pieces.specs.Arms.{arm_fits, arm_hand, arm_lowered, held_at, step_fits, step_lowered, steps_fit, steps_in, steps_lowered}
 use Rattle.lowered_pieces.specs.Functions.{event_code}
 use Rattle.lowered_pieces.specs.Lowering.{Node}
 use Rattle.lowered_pieces.specs.Mapped.{ends_with, fixed_end}
@@ -53,22 +55,22 @@ use Rattle.lowered_pieces.specs.Openings.{named_piece}
 use Rattle.lowered_pieces.specs.Places.{Kit, Naming}
 use Rattle.lowered_laws.specs.TablesTelling.{EachAlone}
 use Rattle.lowered_laws.specs.TablesTelling as C
-use Rattle.lowered_steps.specs.Setting.{kit_for}
+use Rattle.lowered_steps.specs.Setting.{kit_for, reads_at, size_for}
+use Rattle.lowered_steps.specs.declared.setting.Reads.{Reads}
 use Rattle.lowered_steps.specs.declared.setting.Setting.{Setting}
 use Rattle.lowered_ends.specs.Around.{node_for}
 use Rattle.lowered_ends.specs.declared.around.Around.{Around}
 use Rattle.lowered_laws.specs.Opened.{held_typ}
 use Rattle.lowered_laws.specs.Simulation.{bare}
 use Rattle.jib_lower.specs.Lowered.{ArmTaken, FlatFrom, NameMade, NamesMade, OpeningsMade, ValueMade, fails_seen, has_names, named_more, named_none}
-use Rattle.jib_lower.specs.Lowered.{names_differ, names_in}
-use Rattle.jib_lower.specs.Lowered.{opened_from, opens_let, opens_none as none_open, opens_register}
-use Rattle.jib_lower.proofs.Basics.{index_there}
-use Rattle.jib_lower.proofs.Opened.{get_past}
+use Rattle.jib_lower.specs.Lowered.{names_differ, names_in, opened_from, opens_let, opens_none as none_open, opens_register}
+use Rattle.jib_lower.specs.Reads.{tree_reads}
+use Rattle.jib_lower.proofs.Basics.{get_past, index_there}
 use Rattle.jib_lower.proofs.Placing.{exception_here}
 use Rattle.module_meanings.proofs.Alone.{AllAlone}
 use Rattle.module_meanings.proofs.Around.{kit_by, kit_same, node_by, node_same, size_by, size_same, types_same}
 use Rattle.module_meanings.proofs.Known.{bodies_there, body_there}
-use Rattle.module_meanings.proofs.Made.{AreLets}
+use Rattle.module_meanings.proofs.Made.{AreLets, behind_both}
 use Rattle.module_meanings.proofs.Openings.{Standing, first_moment, in_one_way, name_came, name_stopped, standing_at, standing_behind, standing_more}
 use Rattle.module_meanings.proofs.Openings.{value_came, value_sits, value_stopped, value_typed}
 use Rattle.module_meanings.proofs.Steps.{FoundIn, Looked, all_found, fails_again, given_same, looked_so, names_of, never_stops}
@@ -310,8 +312,11 @@ module _ (core : CoreModel) (sized : SizedCore) (m : Module) (low : FlatFrom cor
       abbrev name : Naming
       name = name_in v.coding.slots
 
+      abbrev variables : List Reads
+      variables = tree_reads (nodes ∷ []) o.value
+
       abbrev node_there : Node
-      node_there = node_by core sized m low [] [] names own name o.value
+      node_there = node_by core sized m low [] [] names variables own name o.value
 
       node_is : node_for setting around name o.value ≡ node_there
       node_is =
@@ -340,23 +345,27 @@ module _ (core : CoreModel) (sized : SizedCore) (m : Module) (low : FlatFrom cor
           → jib_run m ls 0 q [] (O.begun 0 st) r → ended core.types r ≡ E.Stop cause
       value_stops cause t stops_ r other =
           stopped_there q made there (v.is.is_pure ∙ v.around.pure) ls cause (bare t)
-          (value_stopped core sized m low is_valid own alone in_nodes setting v.coding v.code.first raised q slots_are code_is v.code.room ls names ms standing
+          (value_stopped core sized m low is_valid variables own alone in_nodes setting v.coding v.code.first raised q slots_are code_is v.code.room ls names
+          ms standing
           o.place o.value able code_there cause t stops_) r other
 
       module _ (x : Item) (t : Now Item) (gives_ : meaning z (opening_world ms) o.value first_moment ≡ R.Gives x t) where
         pub sits : (has_sizes core.types x.val x.typ ≡ true) × (is_known ss x.typ ≡ true)
         sits =
-            value_sits core sized m low is_valid own alone in_nodes setting v.coding v.code.first raised q slots_are code_is v.code.room ls names ms standing
+            value_sits core sized m low is_valid variables own alone in_nodes setting v.coding v.code.first raised q slots_are code_is v.code.room ls names ms
+            standing
             o.place o.value able code_there x t gives_
 
         pub runs : jib_run m ls 0 q [] (bare first_moment) (Gives x.val (bare t))
         runs =
-            value_came core sized m low is_valid own alone in_nodes setting v.coding v.code.first raised q slots_are code_is v.code.room ls names ms standing
+            value_came core sized m low is_valid variables own alone in_nodes setting v.coding v.code.first raised q slots_are code_is v.code.room ls names ms
+            standing
             o.place o.value able code_there x t gives_
 
         pub typed : (arm : Arm) (whole : Sized) → ArmTaken setting around o.value arm whole → whole ≡ x.typ
         typed arm whole taken =
-            value_typed core sized m low is_valid own alone in_nodes setting v.coding v.code.first raised q slots_are code_is v.code.room ls names ms standing
+            value_typed core sized m low is_valid variables own alone in_nodes setting v.coding v.code.first raised q slots_are code_is v.code.room ls names
+            ms standing
             o.place o.value able code_there x t gives_ whole
             (subst (λ (n : Node). ends_with whole (fixed_end n.piece.ends) ≡ true) node_is (taken.ends name))
 
@@ -406,7 +415,7 @@ module _ (core : CoreModel) (sized : SizedCore) (m : Module) (low : FlatFrom cor
               → ended core.types r ≡ E.Stop (MatchFailure o.place)
           name_fails t failed r other =
               stopped_there q made there (v.is.is_pure ∙ v.around.pure) ls (MatchFailure o.place) (bare t)
-              (name_stopped core sized m low is_valid own alone in_nodes setting_ v.coding v.code.first
+              (name_stopped core sized m low is_valid [] own alone in_nodes setting_ v.coding v.code.first
               (exception_here core sized m low low.bare low.bare_is [] [] setting_ v.around.setting) q (ap slots_in there ∙ v.is.slots)
               (ap code_in there ∙ v.is.code) v.code.room ls names0 ms0 standing o.place k whole v.name.typ.now steps text v0 name_code lowered is_typ
               (index_there ls k V.Unit v0 given) had t failed) r other
@@ -414,7 +423,7 @@ module _ (core : CoreModel) (sized : SizedCore) (m : Module) (low : FlatFrom cor
           module _ (hr : P.Hand Item) (looked : looks ≡ R.Gives hr first_moment) (y : Item) (held : held_in text hr.found ≡ Some y) where
             runs_name : jib_run m ls 0 q [] (bare first_moment) (Gives y.val (bare first_moment))
             runs_name =
-                name_came core sized m low is_valid own alone in_nodes setting_ v.coding v.code.first
+                name_came core sized m low is_valid [] own alone in_nodes setting_ v.coding v.code.first
                 (exception_here core sized m low low.bare low.bare_is [] [] setting_ v.around.setting) q (ap slots_in there ∙ v.is.slots)
                 (ap code_in there ∙ v.is.code) v.code.room ls names0 ms0 standing o.place k whole v.name.typ.now steps text v0 name_code lowered is_typ
                 (index_there ls k V.Unit v0 given) had hr y looked held
@@ -486,6 +495,23 @@ module _ (core : CoreModel) (sized : SizedCore) (m : Module) (low : FlatFrom cor
 
   past_given : (n k j : ℕ) → n + 1 + k + j ≡ n + suc (k + j)
   past_given n k j = omega arith
+
+  -- what is lowered where some names are variables' is where none is
+
+  step_plain : (size : Num → Option ℤ) (reads : List ℕ → List Sized) (s : Step) → step_fits size reads s ≡ true → step_lowered size s ≡ true
+  step_plain size reads (Step_.Opens i head k) h = h
+  step_plain size reads (Step_.Names i name) h = refl
+  step_plain size reads (Step_.Sees d k) h = no h
+
+  steps_plain : (size : Num → Option ℤ) (reads : List ℕ → List Sized) (ss : List Step) → steps_fit size reads ss ≡ true → steps_lowered size ss ≡ true
+  steps_plain size reads [] h = refl
+  steps_plain size reads (s ∷ ss) h =
+      let p = and_parts (step_fits size reads s) (steps_fit size reads ss) h in
+      λ i. step_plain size reads s p.0 i && steps_plain size reads ss p.1 i
+
+  arm_plain : (size : Num → Option ℤ) (reads : List ℕ → List Sized) (arm : Arm) → arm_fits size reads arm ≡ true → arm_lowered size arm ≡ true
+  arm_plain size reads (A.Flat n steps) h = steps_plain size reads steps h
+  arm_plain size reads (A.Nested ps) h = no h
 
   flat_steps : (size : Num → Option ℤ) (arm : Arm) → arm_lowered size arm ≡ true → steps_lowered size (steps_in arm) ≡ true
   flat_steps size (A.Flat n steps) h = h
@@ -606,7 +632,7 @@ module _ (core : CoreModel) (sized : SizedCore) (m : Module) (low : FlatFrom cor
       arm_is : arm_lowered (size_by core sized m low []) arm ≡ true
       arm_is =
           ap (λ f. arm_lowered f arm) (sym (size_same core sized m low low.bare low.bare_is (nodes ∷ []) [] v.walk.setting.now v.around.setting))
-          ∙ taken.lowered
+          ∙ arm_plain (size_for v.walk.setting.now) (reads_at v.walk.setting.now.reads.now) arm taken.lowered
 
       -- of its value
 
@@ -730,11 +756,13 @@ module _ (core : CoreModel) (sized : SizedCore) (m : Module) (low : FlatFrom cor
       (λ j g h. ap (slice_get m.functions) (past_given n (length given) j) ∙ functions (suc (length given + j)) g (get_past given rest j ∙ h)) vs b.opens s)
       (opening_run (sizing.opening i) ms o first_moment) refl
 
-  -- all functions of openings stand behind those of instances
-  functions_there : (j : ℕ) (f : Code) → slice_get low.opened j ≡ Some f → slice_get m.functions (2 * length sized.instances + j) ≡ Some f
+  -- all functions of openings stand behind those of instances and of directions
+  functions_there : (j : ℕ) (f : Code) → slice_get low.opened j ≡ Some f → slice_get m.functions (2 * length sized.instances + length low.ways + j) ≡ Some f
   functions_there j f h =
-      ap (λ n. slice_get m.functions (n + j)) (sym (low.instances.many ∙ ap (λ (c : SizedCore). 2 * length c.instances) low.is.of_sized))
-      ∙ ap (λ fs. slice_get fs (length low.functions + j)) low.all ∙ get_past low.functions low.opened j ∙ h
+      ap (λ n. slice_get m.functions (n + length low.ways + j)) (sym (low.instances.many ∙ ap (λ (c : SizedCore). 2 * length c.instances) low.is.of_sized))
+      ∙ ap (slice_get m.functions) (behind_both (length low.functions) (length low.ways) j)
+      ∙ ap (λ fs. slice_get fs (length low.functions + (length low.ways + j))) low.all
+      ∙ get_past low.functions (low.ways ++ low.opened) (length low.ways + j) ∙ get_past low.ways low.opened j ∙ h
 
   from_first : (j : ℕ) → 0 + j ≡ j
   from_first j = omega arith
@@ -744,8 +772,8 @@ module _ (core : CoreModel) (sized : SizedCore) (m : Module) (low : FlatFrom cor
       → Came low.model.openings.now vs (initial m.openings es s) (openings_of sizing core s)
   all_follow es vs opens s =
       subst (λ os. Came low.model.openings.now vs (initial os es s) (openings_of sizing core s)) (sym low.opens)
-      (opens_follow low.openings (2 * length sized.instances) [] [] refl tt (λ j o k. ap (slice_get core.openings) (from_first j) ∙ k) functions_there vs
-      (subst (λ os. Opens m core.types st os [] es vs) low.opens opens) s)
+      (opens_follow low.openings (2 * length sized.instances + length low.ways) [] [] refl tt (λ j o k. ap (slice_get core.openings) (from_first j) ∙ k)
+      functions_there vs (subst (λ os. Opens m core.types st os [] es vs) low.opens opens) s)
 
   -- the openings of the module, worked out over whatever state, have the values of the names of lets
   pub lets_are : (es : List Halt) (vs : List Value) → Opens m core.types st m.openings [] es vs → AreLets core sized m low vs

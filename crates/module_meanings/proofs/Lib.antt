@@ -10,3 +10,5 @@ pub mod Lets
 pub mod Flat
 pub mod Whole
 pub mod Texts
+pub mod Crossed
+pub mod Ways

@@ -40,7 +40,7 @@ use Rattle.lowered_slots.specs.Slots.{name_in}
 use Rattle.lowered_laws.specs.Standing.{HasAt}
 use Rattle.lowered_laws.proofs.Pieces.{has_whole}
 use Rattle.lowered_pieces.specs.declared.coding.Coding.{Coding}
-use Rattle.lowered_pieces.specs.Arms.{steps_lowered}
+use Rattle.lowered_pieces.specs.Arms.{steps_fit}
 use Rattle.lowered_pieces.specs.Emitted.{Begins, UsesBelow}
 use Rattle.lowered_pieces.specs.Forms.{Callees}
 use Rattle.lowered_pieces.specs.Functions.{body_depths, event_code}
@@ -51,6 +51,8 @@ use Rattle.lowered_pieces.specs.Places.{HasSlots, Names}
 use Rattle.lowered_laws.specs.TablesTelling.{EachAlone}
 use Rattle.lowered_laws.specs.TablesTelling as C
 use Rattle.lowered_laws.proofs.TablesTelling.{noted_tell}
+use Rattle.lowered_steps.specs.Setting.{reads_at}
+use Rattle.lowered_steps.specs.declared.setting.Reads.{Reads}
 use Rattle.lowered_steps.specs.declared.setting.Setting.{Setting}
 use Rattle.lowered_functions.specs.Made.{first_slots}
 use Rattle.lowered_laws.specs.Opened.{held_typ, name_hand, name_run}
@@ -65,7 +67,7 @@ use Rattle.lowered_laws.proofs.KnownTruths.{truths_known}
 use Rattle.jib_lower.specs.Lowered.{FlatFrom}
 use Rattle.jib_lower.proofs.Basics.{basic_of, index_there}
 use Rattle.jib_lower.proofs.Placing.{basics}
-use Rattle.module_meanings.proofs.Around.{callees_by, kit_by, node_by, size_by, tables_by}
+use Rattle.module_meanings.proofs.Around.{callees_by, kit_by, node_by, size_by, tables_by, tells_read}
 use Rattle.module_meanings.proofs.Known.{knows, stands}
 use Rattle.module_meanings.proofs.Slots.{has_slots, names_apart, typs_of}
 
@@ -125,7 +127,7 @@ module _ (core : CoreModel) (sized : SizedCore) (m : Module) (low : FlatFrom cor
 
   -- ---- the function of an opening at work, with the tables of its opening
 
-  module _ (nodes : List NodeSizes) (alone : EachAlone nodes) (in_nodes : C.all_known (is_known ss) nodes ≡ true) where
+  module _ (told : List Reads) (nodes : List NodeSizes) (alone : EachAlone nodes) (in_nodes : C.all_known (is_known ss) nodes ≡ true) where
     abbrev cases : Cases
     cases = noted_cases_of core.types sized.instances nodes
 
@@ -147,11 +149,11 @@ module _ (core : CoreModel) (sized : SizedCore) (m : Module) (low : FlatFrom cor
         number = type_in ss;
         exception = m.exception;
         size = size_by core sized m low [];
-        tables = tables_by core sized m low nodes;
+        tables = tables_by core sized m low told nodes;
         knows = knows core sized m low;
         had = λ v t h k. types_have core.types ss m.types (stands core sized m low) v t h k;
         cases = cases;
-        tells = noted_tell core.types (is_known ss) sized.instances nodes alone in_nodes;
+        tells = tells_read core sized m low told nodes cases (noted_tell core.types (is_known ss) sized.instances nodes alone in_nodes);
         types = basic_of core.types ss m.types (stands core sized m low) (name_in coding.slots) m.exception (size_by core sized m low [])
             (basics core sized m low).0 (basics core sized m low).1 (basics core sized m low).2;
         names = subst (Names (kit_by core sized m low [] (name_in coding.slots))) (sym slots_is)
@@ -198,11 +200,11 @@ module _ (core : CoreModel) (sized : SizedCore) (m : Module) (low : FlatFrom cor
 
       -- ---- a value
 
-      module _ (place : TextPlace) (c : Core) (able : (node_by core sized m low [] [] names nodes (name_in coding.slots) c).ok ≡ true)
+      module _ (place : TextPlace) (c : Core) (able : (node_by core sized m low [] [] names told nodes (name_in coding.slots) c).ok ≡ true)
           (is_code : coding.code ≡ event_code (kit_by core sized m low [] (name_in coding.slots)) place
-          (node_by core sized m low [] [] names nodes (name_in coding.slots) c).piece) where
+          (node_by core sized m low [] [] names told nodes (name_in coding.slots) c).piece) where
         abbrev there : Node
-        there = node_by core sized m low [] [] names nodes (name_in coding.slots) c
+        there = node_by core sized m low [] [] names told nodes (name_in coding.slots) c
 
         -- what may follow its run
         abbrev Next : Outcome → Ended Item Item → Type 0
@@ -249,7 +251,7 @@ module _ (core : CoreModel) (sized : SizedCore) (m : Module) (low : FlatFrom cor
       module _ (place : TextPlace) (k : ℕ) (whole typ : Sized) (steps : List Step) (text : List ℕ) (v : Value)
           (is_code : coding.code ≡ event_code (kit_by core sized m low [] (name_in coding.slots)) place
           (named_piece core.types (kit_by core sized m low [] (name_in coding.slots)) [] place k whole (A.Flat 0 steps) text typ))
-          (lowered : steps_lowered (size_by core sized m low []) steps ≡ true)
+          (lowered : steps_fit (size_by core sized m low []) (reads_at told) steps ≡ true)
           (is_typ : held_typ (name_hand (at_work (Gives v (bare first_moment))) steps whole).names
           (name_hand (at_work (Gives v (bare first_moment))) steps whole).named text ≡ Some typ)
           (given : slice_index_or ls k V.Unit ≡ v) (had : (has_sizes core.types v whole ≡ true) × (is_known ss whole ≡ true)) where

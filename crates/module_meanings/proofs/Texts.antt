@@ -40,12 +40,14 @@ use Rattle.jib.proofs.Determined.{determined}
 use Rattle.jib.proofs.Ends.{ends}
 use Rattle.jib.proofs.ValidLaws.{valid_once, valid_set, valid_ticking}
 use Rattle.jib_machine.specs.Events.{blank, call_end, call_ran}
+use Rattle.safe_models.specs.Options.{OptionFirst}
 use Rattle.safe_models.specs.RunLaws.{LoweredEventsMean}
 use Rattle.safe_models.specs.Safe.{Cycles, meant_of, text_parts}
 use Rattle.safe_models.specs.Tables.{IsWhole, TabledCoresGo, core_in}
 use Rattle.safe_models.proofs.Accepted.{as_held, of_text}
 use Rattle.safe_models.proofs.Apart.{texts_apart}
 use Rattle.safe_models.proofs.Meaning.{went}
+use Rattle.safe_models.proofs.Options.{options_first}
 use Rattle.safe_models.proofs.Texts.{parts_alike}
 use Rattle.module_meanings.specs.Laws.{Comes, EnginesMeanTexts, IsMade, MachinesMeanTexts, MeansText, ModulesAreMade, ModulesStart}
 
@@ -118,7 +120,8 @@ machines_mean made_so start_so mean go alike source texts made accepted cycle si
     let whole : IsWhole false core sized = record { found = found; whole = low.tabled } in
     let apart : NumbersApart core = texts_apart text cycle in
     let goes = go false texts made accepted cycle sized held whole past count some few in
-    let starts = start_so core sized m apart found low over es lets opens in
+    let options : OptionFirst core.types = options_first text cycle in
+    let starts = start_so core sized m apart found low options over es lets opens in
     let same : AreAlike (core_parts plain core) (text_parts (meant_of text cycle)) (IsFit core past count) =
     parts_alike (meant_of text cycle) core past count (of_text text cycle) (source texts made accepted cycle) in
     record {
@@ -131,7 +134,7 @@ machines_mean made_so start_so mean go alike source texts made accepted cycle si
       events = λ first fits ended hart less state fit.
           let end : AllEnd core k = all_end core sized m es first _ (goes.1 first fits) (starts first) ended in
           let parts = goes.0 end in
-          let is : IsMade core sized m lets hart = made_so core sized m apart found low over es lets opens hart in
+          let is : IsMade core sized m lets hart = made_so core sized m apart found low options over es lets opens hart in
           let both = mean texts made accepted cycle sized held whole past count some few end hart less is.made is.is state fit in (
             (λ entry.
                 let s = both.1 entry in

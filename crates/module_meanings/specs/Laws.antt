@@ -29,12 +29,13 @@ use Rattle.jib.specs.Valid.{valid}
 use Rattle.jib.specs.declared.code.Module.{Module}
 use Rattle.jib_machine.specs.Events.{events}
 use Rattle.lowered_laws.specs.Modules.{Made}
+use Rattle.safe_models.specs.Options.{OptionFirst}
 use Rattle.safe_models.specs.RunEvents.{MadeOf}
 use Rattle.safe_models.specs.Safe.{Cycles, meant_of, text_parts}
 use Rattle.safe_models.specs.Tables.{core_in}
 use Rattle.jib_lower.specs.Lowered.{LoweredFrom}
 
--- ---- of a core whose nodes have numbers of their own
+-- ---- of a core whose nodes have numbers of their own, and whose first type is `option`
 
 -- a module at work, with these values of its openings, that is made of a core; events enter the function behind that which calls enter
 pub record IsMade (core : CoreModel) (sized : SizedCore) (m : Module) (lets : List Value) (hart : ℕ) : Type 0 where
@@ -47,14 +48,15 @@ pub record IsMade (core : CoreModel) (sized : SizedCore) (m : Module) (lets : Li
 -- the module that is lowered from a core is made of it, over whatever state its openings are worked out
 abbrev pub ModulesAreMade : Type 0
 ModulesAreMade = (core : CoreModel) (sized : SizedCore) (m : Module) → NumbersApart core → sized_core core ≡ Ok sized → LoweredFrom core sized m
-    → (over : RunState) (es : List Ended) (lets : List Value) → Opens m core.types over m.openings [] es lets → (hart : ℕ)
+    → OptionFirst core.types → (over : RunState) (es : List Ended) (lets : List Value) → Opens m core.types over m.openings [] es lets → (hart : ℕ)
     → IsMade core sized m lets hart
 
 -- and so from each state its openings, which ended so, come to what those of the core come to where cases go by noted numbers and none is stuck: they set
 -- the registers in order, or stop at the first that stops
 abbrev pub ModulesStart : Type 0
 ModulesStart = (core : CoreModel) (sized : SizedCore) (m : Module) → NumbersApart core → sized_core core ≡ Ok sized → LoweredFrom core sized m
-    → (over : RunState) (es : List Ended) (lets : List Value) → Opens m core.types over m.openings [] es lets → (state : RunState) (ran : Ran)
+    → OptionFirst core.types → (over : RunState) (es : List Ended) (lets : List Value) → Opens m core.types over m.openings [] es lets
+    → (state : RunState) (ran : Ran)
     → init_ran (checking (noted_checks_of core sized)) core state ≡ Some ran → initial m.openings es state ≡ ran
 
 -- ---- of an accepted text

@@ -22,6 +22,8 @@ use Rattle.sail_core.specs.Start as S
 use Rattle.sail_core.specs.Start.{event_run, setting_of}
 use Rattle.sail_core.specs.declared.model.CoreModel.{CoreModel}
 use Rattle.sail_core.specs.declared.model.Function.{Function}
+use Rattle.mappings.proofs.FreeModels as free
+use Rattle.mappings.specs.Rewriting.{free_function, without_mappings}
 use Rattle.match_rewrite.proofs.FlatModels.{runs_kept}
 use Rattle.match_rewrite.specs.Rewriting.{flat_function, with_flat_arms}
 use Rattle.value_laws.proofs.Basics.{two}
@@ -39,6 +41,7 @@ use Rattle.lowered_laws.specs.Modules as Modules
 use Rattle.lowered_laws.specs.Simulation.{AnswersFrom, bare}
 use Rattle.safe_models.specs.RunEvents.{IsEntered, MadeOf}
 use Rattle.safe_models.specs.RunLaws.{EventsCome}
+use Rattle.safe_models.proofs.Options.{keeps_parts}
 
 -- ---- what a run comes to is the same in both words
 
@@ -86,13 +89,15 @@ ended_there x types hart ticks q vs state ran R.Stuck a h = none h
 
 module _ (m : CoreModel) (c : SizedCore) (hart i p : ℕ) (e : IsEntered m c i p) (depth : ℕ) (vs : List Value) where
   abbrev s : Setting Item
-  s = setting_of (checking (noted_checks_of m c)) (with_flat_arms m) hart
+  s = setting_of (checking (noted_checks_of m c)) (with_flat_arms (without_mappings m)) hart
 
   abbrev function : Function
-  function = flat_function e.function
+  function = flat_function (free_function e.function)
 
-  function_is : slice_get (with_flat_arms m).functions i ≡ Some function
-  function_is = slice_get-map flat_function m.functions i ∙ ap (option_map flat_function) e.is_it
+  function_is : slice_get (with_flat_arms (without_mappings m)).functions i ≡ Some function
+  function_is =
+      slice_get-map flat_function (map free_function m.functions) i
+      ∙ ap (option_map flat_function) (slice_get-map free_function m.functions i ∙ ap (option_map free_function) e.is_it)
 
   abbrev below : Calls Item
   below = calls s depth
@@ -139,18 +144,19 @@ module _ (m : CoreModel) (c : SizedCore) (hart i p : ℕ) (e : IsEntered m c i p
   none_given : (a : Awaited) → begun_by a (length function.variables) ≡ run_by a []
   none_given a = ap (λ ps. begun_by a (length ps)) e.plain
 
-  event_is : (a : Awaited) → event_of s below i a vs (slice_get (with_flat_arms m).functions i) ≡ begun_by a (length function.variables)
+  event_is : (a : Awaited)
+      → event_of s below i a vs (slice_get (with_flat_arms (without_mappings m)).functions i) ≡ begun_by a (length function.variables)
   unfolding run_by
   event_is a = ap (event_of s below i a vs) function_is
 
-  pub same_event : event_of s below i None vs (slice_get (with_flat_arms m).functions i)
-      ≡ event_of s below i (Some awaited) vs (slice_get (with_flat_arms m).functions i)
+  pub same_event : event_of s below i None vs (slice_get (with_flat_arms (without_mappings m)).functions i)
+      ≡ event_of s below i (Some awaited) vs (slice_get (with_flat_arms (without_mappings m)).functions i)
   same_event = event_is None ∙ none_given None ∙ same_run ∙ sym (none_given (Some awaited)) ∙ sym (event_is (Some awaited))
 
 pub events_come : Modules.EventsAnswer → EventsCome
 events_come answer m c hart x of i p e ticks vs state ran h =
     let sizing : Sizing Item = checking (noted_checks_of m c) in
-    let flat : CoreModel = with_flat_arms m in
+    let flat : CoreModel = with_flat_arms (without_mappings m) in
     let t : Setting Item = setting_of sizing flat hart in
     let a : Instance = record { place = p; numbers = numbers_of e.instance.instance } in
     let now : Now Item = S.begun ticks state in
@@ -164,6 +170,7 @@ events_come answer m c hart x of i p e ticks vs state ran h =
     let same : event_run sizing flat ticks None hart i vs state ≡ event_of t (calls t (suc ticks)) i (Some a) vs (slice_get flat.functions i) now =
     ap (λ (r : Run Item Value). r now) (same_event m c hart i p e (suc ticks) vs) in
     let kept : event_run sizing flat ticks None hart i vs state ≡ event_run sizing m ticks None hart i vs state =
-    (runs_kept sizing m).events ticks None hart i vs state in
+    (runs_kept sizing (without_mappings m)).events ticks None hart i vs state
+    ∙ (free.runs_kept sizing (keeps_parts (noted_checks_of m c) of.options) m of.resolved).events ticks None hart i vs state in
     ended_there x m.types hart ticks (x.event p) vs state ran (event_of t (calls t (suc ticks)) i (Some a) vs (slice_get flat.functions i) now) answers
     (ap (S.ran_of m.types) (sym same ∙ kept) ∙ h)

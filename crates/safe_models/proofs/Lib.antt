@@ -42,6 +42,7 @@ pub mod WaysFall
 pub mod Covered
 pub mod Listed
 pub mod Tables
+pub mod Options
 mod Coming
 mod Entering
 pub mod Meaning

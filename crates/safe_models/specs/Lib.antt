@@ -18,6 +18,7 @@ pub mod Ways
 pub mod Tested
 pub mod Listed
 pub mod Tables
+pub mod Options
 pub mod RunEvents
 pub mod RunLaws
 pub mod Laws

@@ -19,6 +19,7 @@ use Rattle.jib_lower.specs.Lowerable.{NotLowerable}
 use Rattle.jib_lower.specs.Lowered.{LoweredFrom}
 use Rattle.jib_machine.specs.Events.{blank, events}
 use Rattle.jib_machine.specs.declared.machine.Machine.{Machine}
+use Rattle.mappings.specs.Rewriting.{without_mappings}
 use Rattle.match_rewrite.specs.Rewriting.{with_flat_arms}
 use Rattle.monomorph.specs.declared.error.MonoError.{MonoError}
 use Rattle.monomorph.specs.declared.error.MonoError.TheVariants as E
@@ -118,6 +119,7 @@ pub left_without : (core : CoreModel) (sized : SizedCore) (error : LowerError) �
 left_without core sized L.Memory sizes no_memory why = absurd (no_memory refl)
 left_without core sized (L.Table t) sizes no_memory why = not_lowered sizes why
 left_without core sized L.NotTabled sizes no_memory why = not_lowered sizes why
+left_without core sized L.NotResolved sizes no_memory why = not_lowered sizes why
 left_without core sized (L.NotLowered p) sizes no_memory why = not_lowered sizes why
 left_without core sized (L.NotSized p) sizes no_memory why = not_lowered sizes why
 left_without core sized L.NotThere sizes no_memory why = not_lowered sizes why
@@ -133,7 +135,7 @@ left_unsized core error (inr none) no_memory = absurd (no_memory (error_same err
 -- ---- the machine of what a core is lowered to
 
 module _ (written : CoreModel) (sized : SizedCore) (flat : CoreModel) (program : Module) (sizes : sized_core written ≡ Ok sized)
-    (is_flat : flat ≡ with_flat_arms written) (low : LoweredFrom written sized program) where
+    (is_flat : flat ≡ with_flat_arms (without_mappings written)) (low : LoweredFrom written sized program) where
   types_are : flat.types ≡ written.types
   types_are = ap (λ (c : CoreModel). c.types) is_flat
 

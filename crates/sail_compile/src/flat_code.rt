@@ -4,6 +4,7 @@ ghost use Rattle.bidir_check.specs.Checking.{IsMet as IsChecked};
 ghost use Rattle.jib_lower.specs.Errors.{OrMemory};
 ghost use Rattle.jib_lower.specs.Lowerable.{NotLowerable};
 ghost use Rattle.jib_lower.specs.Lowered.{LoweredFrom};
+ghost use Rattle.mappings.specs.Rewriting.{without_mappings};
 ghost use Rattle.match_rewrite.specs.Rewriting.{with_flat_arms};
 ghost use Rattle.sail_core.specs.declared.model.CoreModel.{CoreModel as ACore};
 ghost use Rattle.sized_trees.specs.Trees.{IsMet, sized_core as sizes_of};
@@ -145,7 +146,7 @@ fn unless_memory(error: LowerError) -> Result<Running<Machine>, AllocError>
 
 /// The machine of a model that is lowered. It fails where memory is wanting.
 fn start(alloc: Global, lowered: Lowered) -> Result<Machine, AllocError>
-    ensures { (written : ACore) (sized : Sizes) → sizes_of written ≡ Ok sized → lowered.flat ≡ with_flat_arms written
+    ensures { (written : ACore) (sized : Sizes) → sizes_of written ≡ Ok sized → lowered.flat ≡ with_flat_arms (without_mappings written)
         → LoweredFrom written sized lowered.checked.program → IfOk result (RunsCode written) }
 {
     let Lowered { flat, checked } = lowered;
