@@ -4,13 +4,16 @@
 
 pub mod checks_rows;
 pub mod choices_rows;
+pub mod example_rows;
 pub mod facts_rows;
 pub mod instances_rows;
 pub mod members_rows;
 pub mod patterns_rows;
+pub mod riscv_rows;
 pub mod shapes_rows;
 pub mod shipped_models;
 pub mod shipped_rv64;
+pub mod stops_rows;
 pub mod tables_rows;
 pub mod tutorial_rows;
 pub mod words_rows;

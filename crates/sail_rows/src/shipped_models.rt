@@ -291,7 +291,7 @@ union clause ast = SB : (bits(12), regidx, regidx)
 mapping clause encdec = SB(imm11_5 @ imm4_0, rs2, rs1)
   <-> imm11_5 : bits(7) @ rs2 @ rs1 @ 0b000 @ imm4_0 : bits(5) @ 0b0100011
 function clause execute(SB(imm, rs2, rs1)) = {
-  mem_write(1, vaddr(rs1, imm), X(rs2)[7 .. 0]);
+  mem_write(1, vaddr(rs1, imm), truncate(X(rs2), 8));
   RETIRE_SUCCESS
 }
 
@@ -299,7 +299,7 @@ union clause ast = SH : (bits(12), regidx, regidx)
 mapping clause encdec = SH(imm11_5 @ imm4_0, rs2, rs1)
   <-> imm11_5 : bits(7) @ rs2 @ rs1 @ 0b001 @ imm4_0 : bits(5) @ 0b0100011
 function clause execute(SH(imm, rs2, rs1)) = {
-  mem_write(2, vaddr(rs1, imm), X(rs2)[15 .. 0]);
+  mem_write(2, vaddr(rs1, imm), truncate(X(rs2), 16));
   RETIRE_SUCCESS
 }
 
@@ -307,7 +307,7 @@ union clause ast = SW : (bits(12), regidx, regidx)
 mapping clause encdec = SW(imm11_5 @ imm4_0, rs2, rs1)
   <-> imm11_5 : bits(7) @ rs2 @ rs1 @ 0b010 @ imm4_0 : bits(5) @ 0b0100011
 function clause execute(SW(imm, rs2, rs1)) = {
-  mem_write(4, vaddr(rs1, imm), X(rs2)[31 .. 0]);
+  mem_write(4, vaddr(rs1, imm), truncate(X(rs2), 32));
   RETIRE_SUCCESS
 }
 
@@ -598,7 +598,7 @@ function clause execute(LR_W(aq, rl, rs1, rd)) = {
 union clause ast = SC_W : (bits(1), bits(1), regidx, regidx, regidx)
 mapping clause encdec = SC_W(aq, rl, rs2, rs1, rd) <-> 0b00011 @ aq @ rl @ rs2 @ rs1 @ 0b010 @ rd @ 0b0101111
 function clause execute(SC_W(aq, rl, rs2, rs1, rd)) = {
-  let written = mem_write_cond(4, amo_address(rs1), X(rs2)[31 .. 0]);
+  let written = mem_write_cond(4, amo_address(rs1), truncate(X(rs2), 32));
   X(rd) = zero_extend(xlen, bool_to_bits(not(written)));
   RETIRE_SUCCESS
 }
@@ -686,6 +686,11 @@ function clause execute(AMOMAXU_W(aq, rl, rs2, rs1, rd)) = {
 pub const RV32_END: &str =
     "/* Where the parts of the instruction set end, and what a step of a hart is */
 
+/* A word that no clause above has is no instruction, and ends the run, with pc at it. */
+union clause ast = ILLEGAL : bits(32)
+mapping clause encdec = ILLEGAL(word) <-> word
+function clause execute(ILLEGAL(word)) = throw(E_Illegal_Instr(word))
+
 end ast
 end encdec
 end execute
@@ -697,15 +702,12 @@ function reset(h, e) = {
   x10 = to_bits(xlen, h)
 }
 
-/* One instruction; false where the hart rests, with pc at that instruction. A word that is none ends the run. */
+/* One instruction; false where the hart rests, with pc at that instruction. */
 val step : unit -> bool
-function step() = match mem_read(4, zero_extend(64, pc)) {
-  encdec(instruction) => match execute(instruction) {
-    Retire_Success() => { pc = pc + 4; true },
-    Retire_Jump(address) => { pc = address; true },
-    Retire_Rest() => false
-  },
-  word => throw(E_Illegal_Instr(word))
+function step() = match execute(encdec(mem_read(4, zero_extend(64, pc)))) {
+  Retire_Success() => { pc = pc + 4; true },
+  Retire_Jump(address) => { pc = address; true },
+  Retire_Rest() => false
 }
 ";
 

@@ -37,7 +37,7 @@ function clause execute(LR_W(aq, rl, rs1, rd)) = {
 union clause ast = SC_W : (bits(1), bits(1), regidx, regidx, regidx)
 mapping clause encdec = SC_W(aq, rl, rs2, rs1, rd) <-> 0b00011 @ aq @ rl @ rs2 @ rs1 @ 0b010 @ rd @ 0b0101111
 function clause execute(SC_W(aq, rl, rs2, rs1, rd)) = {
-  let written = mem_write_cond(4, amo_address(rs1), X(rs2)[31 .. 0]);
+  let written = mem_write_cond(4, amo_address(rs1), truncate(X(rs2), 32));
   X(rd) = zero_extend(xlen, bool_to_bits(not(written)));
   RETIRE_SUCCESS
 }

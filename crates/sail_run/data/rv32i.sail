@@ -111,7 +111,7 @@ union clause ast = SB : (bits(12), regidx, regidx)
 mapping clause encdec = SB(imm11_5 @ imm4_0, rs2, rs1)
   <-> imm11_5 : bits(7) @ rs2 @ rs1 @ 0b000 @ imm4_0 : bits(5) @ 0b0100011
 function clause execute(SB(imm, rs2, rs1)) = {
-  mem_write(1, vaddr(rs1, imm), X(rs2)[7 .. 0]);
+  mem_write(1, vaddr(rs1, imm), truncate(X(rs2), 8));
   RETIRE_SUCCESS
 }
 
@@ -119,7 +119,7 @@ union clause ast = SH : (bits(12), regidx, regidx)
 mapping clause encdec = SH(imm11_5 @ imm4_0, rs2, rs1)
   <-> imm11_5 : bits(7) @ rs2 @ rs1 @ 0b001 @ imm4_0 : bits(5) @ 0b0100011
 function clause execute(SH(imm, rs2, rs1)) = {
-  mem_write(2, vaddr(rs1, imm), X(rs2)[15 .. 0]);
+  mem_write(2, vaddr(rs1, imm), truncate(X(rs2), 16));
   RETIRE_SUCCESS
 }
 
@@ -127,7 +127,7 @@ union clause ast = SW : (bits(12), regidx, regidx)
 mapping clause encdec = SW(imm11_5 @ imm4_0, rs2, rs1)
   <-> imm11_5 : bits(7) @ rs2 @ rs1 @ 0b010 @ imm4_0 : bits(5) @ 0b0100011
 function clause execute(SW(imm, rs2, rs1)) = {
-  mem_write(4, vaddr(rs1, imm), X(rs2)[31 .. 0]);
+  mem_write(4, vaddr(rs1, imm), truncate(X(rs2), 32));
   RETIRE_SUCCESS
 }
 

@@ -3,8 +3,8 @@ use sail_outside::{MemShelf, MemSink};
 use sail_rows::shipped_models::{RV32_BEGIN, RV32_END, RV32A, RV32I, RV32M, TOY16};
 use sail_rows::shipped_rv64::{RV64_BEGIN, RV64A, RV64I, RV64M};
 use sail_rows::{
-    checks_rows, choices_rows, facts_rows, instances_rows, members_rows, patterns_rows,
-    shapes_rows, tables_rows, tutorial_rows, words_rows,
+    checks_rows, choices_rows, example_rows, facts_rows, instances_rows, members_rows,
+    patterns_rows, shapes_rows, tables_rows, tutorial_rows, words_rows,
 };
 use sail_top::{Jib, run_words};
 use std::alloc::{AllocError, Global};
@@ -50,8 +50,8 @@ fn model(alloc: Global, registers: &str, body: &str) -> Result<Vec<u8>, AllocErr
     Ok(text)
 }
 
-// A file of a name.
-fn file(alloc: Global, name: &str, bytes: Vec<u8>) -> Result<(String, Vec<u8>), AllocError> {
+/// A file of a name.
+pub fn file(alloc: Global, name: &str, bytes: Vec<u8>) -> Result<(String, Vec<u8>), AllocError> {
     Ok((String::from_str(alloc, name)?, bytes))
 }
 
@@ -64,7 +64,7 @@ fn words_of(alloc: Global, line: &str) -> Result<Vec<String>, AllocError> {
     Ok(words)
 }
 
-// The model M, what stands behind registers, and the images.
+// The model M, what stands behind registers, and the images, those of the examples last.
 fn files_of(alloc: Global, text: Vec<u8>) -> Result<Vec<(String, Vec<u8>)>, Fail> {
     let mut short = hex::decode(alloc, IMAGE)?;
     short.truncate(127);
@@ -74,11 +74,31 @@ fn files_of(alloc: Global, text: Vec<u8>) -> Result<Vec<(String, Vec<u8>)>, Fail
     files.push(file(alloc, "Q", hex::decode(alloc, IMAGE)?)?)?;
     files.push(file(alloc, "S", hex::decode(alloc, SEGMENTS)?)?)?;
     files.push(file(alloc, "P", short)?)?;
+    files.push(file(alloc, "C", hex::decode(alloc, example_rows::COUNTDOWN)?)?)?;
+    files.push(file(alloc, "L", hex::decode(alloc, example_rows::LINES)?)?)?;
     Ok(files)
 }
 
-// What is written for words over these files, behind the status and a blank. The calls of the shelf and the sink
-// whose numbers are listed fail, and each moves at most `piece` bytes.
+/// What is written for words over files, behind the status and a blank. The calls of the shelf and the sink whose numbers are listed fail, and each
+/// moves at most `piece` bytes.
+pub fn answer_over(
+    alloc: Global,
+    line: &str,
+    files: Vec<(String, Vec<u8>)>,
+    fails: (Vec<u64>, Vec<u64>),
+    piece: usize,
+) -> Result<Vec<u8>, Fail> {
+    let words = words_of(alloc, line)?;
+    let mut shelf = MemShelf::new(files, fails.0, piece);
+    let mut sink = MemSink::new(alloc, fails.1, piece);
+    let mut engine = Jib;
+    let status = run_words(alloc, words.as_slice(), &mut shelf, &mut sink, &mut engine);
+    let mut answer = Vec::from_slice(alloc, &[b'0' + status.code() % 10, b' '])?;
+    answer.extend_from_slice(sink.bytes())?;
+    Ok(answer)
+}
+
+// The same over the model M of a text, and the other files.
 fn answer(
     alloc: Global,
     line: &str,
@@ -86,14 +106,7 @@ fn answer(
     fails: (Vec<u64>, Vec<u64>),
     piece: usize,
 ) -> Result<Vec<u8>, Fail> {
-    let words = words_of(alloc, line)?;
-    let mut shelf = MemShelf::new(files_of(alloc, text)?, fails.0, piece);
-    let mut sink = MemSink::new(alloc, fails.1, piece);
-    let mut engine = Jib;
-    let status = run_words(alloc, words.as_slice(), &mut shelf, &mut sink, &mut engine);
-    let mut answer = Vec::from_slice(alloc, &[b'0' + status.code() % 10, b' '])?;
-    answer.extend_from_slice(sink.bytes())?;
-    Ok(answer)
+    answer_over(alloc, line, files_of(alloc, text)?, fails, piece)
 }
 
 /// A row of a table.
@@ -310,6 +323,11 @@ fn models_of_the_tutorial_are_answered(rt: HostRuntime) -> Result<(), Fail> {
     rows_answered(&rt, rt.alloc(), tutorial_rows::TUTORIAL, 4096)
 }
 
+#[test]
+fn examples_are_answered(rt: HostRuntime) -> Result<(), Fail> {
+    rows_answered(&rt, rt.alloc(), example_rows::EXAMPLES, 4096)
+}
+
 // What `check` writes for a model of these texts, the status first.
 fn checked(alloc: Global, texts: &[&str]) -> Result<Vec<u8>, Fail> {
     let mut model = Vec::new(alloc);
@@ -331,7 +349,7 @@ fn the_shipped_machine_of_16_bits_is_accepted(rt: HostRuntime) -> Result<(), Fai
 #[test]
 fn the_shipped_rv32i_is_accepted(rt: HostRuntime) -> Result<(), Fail> {
     let written = checked(rt.alloc(), &[RV32_BEGIN, RV32I, RV32_END])?;
-    let wanted = "0 accepted 10 functions 688 obligations 9 instances\n";
+    let wanted = "0 accepted 10 functions 690 obligations 9 instances\n";
     assert!(rt; written.as_slice() == wanted.as_bytes());
     Ok(())
 }
@@ -340,7 +358,7 @@ fn the_shipped_rv32i_is_accepted(rt: HostRuntime) -> Result<(), Fail> {
 fn the_shipped_rv32ima_is_accepted(rt: HostRuntime) -> Result<(), Fail> {
     let texts = [RV32_BEGIN, RV32I, RV32M, RV32A, RV32_END];
     let written = checked(rt.alloc(), &texts)?;
-    let wanted = "0 accepted 13 functions 1014 obligations 12 instances\n";
+    let wanted = "0 accepted 13 functions 1016 obligations 12 instances\n";
     assert!(rt; written.as_slice() == wanted.as_bytes());
     Ok(())
 }
@@ -351,7 +369,7 @@ fn the_shipped_rv64ima_is_accepted(rt: HostRuntime) -> Result<(), Fail> {
         RV64_BEGIN, RV32I, RV64I, RV32M, RV64M, RV32A, RV64A, RV32_END,
     ];
     let written = checked(rt.alloc(), &texts)?;
-    let wanted = "0 accepted 16 functions 1490 obligations 15 instances\n";
+    let wanted = "0 accepted 16 functions 1492 obligations 15 instances\n";
     assert!(rt; written.as_slice() == wanted.as_bytes());
     Ok(())
 }

@@ -6,6 +6,8 @@ mod answers;
 #[cfg(test)]
 mod long_texts;
 #[cfg(test)]
+mod machines;
+#[cfg(test)]
 mod tests;
 
 use sail_outside::{StdShelf, StdSink};
