@@ -29,6 +29,7 @@ use Rattle.jib_values.specs.Sources.{filled, source_value, source_values}
 use Rattle.jib_machine.specs.parts.Begun.{store}
 use Rattle.jib_values.specs.Results.{Wrote, MadeIs}
 use Rattle.jib_machine.specs.parts.Acts.{Acted, outcome_of}
+use Rattle.jib_machine.specs.parts.Unread.{Begins}
 
 read_is : (m : Module) (ls : List Value) (hart : ℕ) (a : Source) (sl : List Value) (s : RunState) (k : ℕ) (xs : List Access)
     → J.read m ls hart a (filled sl) (store s k xs) ≡ source_value ls hart s sl a
@@ -72,7 +73,7 @@ module _ (m : Module) (ls : List Value) (hart : ℕ) (h : J.Here) (i : Instructi
           ∙ ap (λ vs. J.apply m ls hart t (J.type_of m h.function t) op vs (filled old) (store s k xs)) (reads_are m ls hart rs old s k xs))
 
   pub did_call : (c : Call) (slots : Vec Value Global) → i ≡ I.Call c
-      → filled slots.items ≡ J.entry m c.function (source_values ls hart s old c.arguments)
+      → Begins m c.function (source_values ls hart s old c.arguments) slots.items
       → Acted m Does (A.Enter c.slot c.function slots c.on_throw c.place) old old s k s k
   did_call c slots e f = (
     source_values ls hart s old c.arguments,

@@ -1,8 +1,11 @@
 mod NarrowLaws
 mod SlotLaws
+mod UnreadLaws
+mod NeedLaws
 mod ActLaws
 mod MadeLaws
 mod TurnLaws
+mod InPlaceLaws
 mod RunLaws
 mod KeepLaws
 mod OpenLaws

@@ -26,6 +26,7 @@ use Rattle.jib_machine.specs.declared.act.Turn.{Turn}
 use Rattle.jib_machine.specs.declared.act.Turn.TheVariants as U
 use Rattle.jib_values.specs.Sources.{filled}
 use Rattle.jib_machine.specs.parts.Begun.{store}
+use Rattle.jib_machine.specs.parts.Unread.{Begins}
 use Rattle.jib_machine.specs.parts.Acts.{seen, outcome_of}
 use Rattle.jib_machine.specs.parts.Runs.{Ready, table_of, remains, RunsOn, Along, Turned, Start, Runs_from, Saved, Leads, Going, Came, frames_left}
 use Rattle.jib_machine.specs.parts.Runs.{left, Went, Advanced, Returned, Finished}
@@ -138,7 +139,7 @@ went_enter m places ls hart rd cur mid cur' frames frames' s t k n i f l p slots
             let x3 : Runs m ls hart (called m (seen mid.here) f p) 0 (filled slots.items) (store t n al.0) r =
             subst (λ (q : Vec Value Global). Runs m ls hart (called m (seen mid.here) f p) 0 (filled q.items) (store t n al.0) r) es x2 in
             let x4 : Runs m ls hart (called m (seen mid.here) f p) 0 (entry m f tu.0) (store t n al.0) r =
-            subst (λ q. Runs m ls hart (called m (seen mid.here) f p) 0 q (store t n al.0) r) tu.3 x3 in
+            tu.3 ls hart (called m (seen mid.here) f p) (store t n al.0) r refl x3 in
             subst (λ q. Leads m ls hart b q r) (sym is2) (enter_leads m ls hart b (reverse frames) fr (store t n al.0) f p tu.0 (tu.2 al.0) r x4
             (λ q y. g.by q (al.1 q y)));
       });
@@ -168,7 +169,7 @@ turned_is m ls hart cur s k u v mid t n e h = subst (λ q. Turned m ls hart cur 
 -- ---- the start
 
 pub begins : (m : Module) (ls : List Value) (hart f : ℕ) (vs : List Value) (s : RunState) (k : ℕ) (cur : Current) (frames : List Frame) → frames ≡ []
-    → seen cur.here ≡ J.alone f → cur.at ≡ 0 → filled cur.slots.items ≡ entry m f vs
+    → seen cur.here ≡ J.alone f → cur.at ≡ 0 → Begins m f vs cur.slots.items
     → Saved m (reverse frames) × Going m ls hart (record { function = f; arguments = vs; state = s; ticks = k }) cur frames s k
 begins m ls hart f vs s k cur frames ef eh ea es =
     let b : Start = record { function = f; arguments = vs; state = s; ticks = k } in (
@@ -181,7 +182,7 @@ begins m ls hart f vs s k cur frames ef eh ea es =
             let x2 : Runs m ls hart (J.alone f) 0 (filled cur.slots.items) (store s k []) r =
             subst (λ q. Runs m ls hart (J.alone f) q (filled cur.slots.items) (store s k []) r) ea x1 in
             let x3 : Runs m ls hart (J.alone f) 0 (entry m f vs) (store s k []) r =
-            subst (λ q. Runs m ls hart (J.alone f) 0 q (store s k []) r) es x2 in
+            es ls hart (J.alone f) (store s k []) r refl x2 in
             subst (λ q. Leads m ls hart b q r) (sym (ap reverse ef)) x3;
       },
     )

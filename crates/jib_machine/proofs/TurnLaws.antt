@@ -45,12 +45,12 @@ along_more m ls hart cur0 s0 k0 cur cur' s t k n a o = record {
 }
 
 -- the run from a place that is this one
-moved : (m : Module) (ls : List Value) (hart : ℕ) (h h' : Here) (pc pc' : ℕ) (sl : J.Slots) (t : J.Store) (r : Outcome) → h' ≡ h → pc' ≡ pc
+pub moved : (m : Module) (ls : List Value) (hart : ℕ) (h h' : Here) (pc pc' : ℕ) (sl : J.Slots) (t : J.Store) (r : Outcome) → h' ≡ h → pc' ≡ pc
     → Runs m ls hart (seen h') pc' sl t r → Runs m ls hart (seen h) pc sl t r
 moved m ls hart h h' pc pc' sl t r eh ep x =
     subst (λ q. Runs m ls hart (seen q) pc sl t r) eh (subst (λ q. Runs m ls hart (seen h') q sl t r) ep x)
 
-remains_same : (m : Module) (h h' : Here) (pc pc' : ℕ) (n : ℕ) → h' ≡ h → pc' ≡ pc → remains m h'.function pc' n ≡ remains m h.function pc n
+pub remains_same : (m : Module) (h h' : Here) (pc pc' : ℕ) (n : ℕ) → h' ≡ h → pc' ≡ pc → remains m h'.function pc' n ≡ remains m h.function pc n
 remains_same m h h' pc pc' n eh ep = λ j. remains m (eh j).function (ep j) n
 
 module _ (m : Module) (ls : List Value) (hart : ℕ) (cur : Current) (s : RunState) (k : ℕ) where

@@ -1,5 +1,7 @@
 pub mod Begun
+pub mod Unread
 pub mod Acts
+pub mod InPlace
 pub mod Changes
 pub mod Runs
 pub mod Tables

@@ -8,12 +8,15 @@ ghost use Rattle.model_state.specs.RunState.{RunState, Access};
 ghost use Rattle.jib_values.specs.Sources.{filled};
 ghost use Rattle.jib_machine.specs.parts.Begun.{store};
 ghost use Rattle.jib_machine.specs.parts.Acts.{Acted, seen, outcome_of};
-ghost use Rattle.jib_machine.specs.parts.Runs.{table_of, Turned, Saved, Advanced, Finished};
+ghost use Rattle.jib_machine.specs.parts.InPlace.{DoneInPlace};
+ghost use Rattle.jib_machine.specs.parts.Runs.{table_of, Along, Turned, Saved, Advanced, Finished};
 ghost use Rattle.jib_machine.specs.parts.Tables.{tables_for};
+ghost use Rattle.jib_machine.specs.parts.Unread.{all_needs};
 ghost use Rattle.jib_machine.specs.parts.Endings.{all_may_end};
 
 use crate::act::{Act, Current, Ending, Frame, Here, Turn};
 use crate::entries::Entries;
+use crate::in_place::{InPlace, in_place};
 use crate::step::{act_of, first_slots};
 use jib::{Instruction, Module};
 use jib_values::put_slot;
@@ -41,8 +44,11 @@ pub struct Machine {
     pub opened: Items<Ended>,
     /// Where each instruction of each function may jump to.
     pub(crate) places: Items<Items<usize>>,
+    /// Which slots of each function have to begin with the zeros of their types.
+    pub(crate) needs: Items<Items<bool>>,
     pub ghost kept: { IsTrue (valid program) },
     ghost found: { places ≡ tables_for program.functions },
+    ghost unread: { needs ≡ all_needs program.functions },
     ghost may_end: { IsTrue (all_may_end opened) },
 }
 
@@ -98,6 +104,16 @@ impl Machine {
     {
         match self.places.as_slice().get(function as usize) {
             Some(table) => table.as_slice(),
+            None => &[],
+        }
+    }
+
+    /// Which slots of a function have to begin with the zeros of their types.
+    pub(crate) fn needs(&self, function: u32) -> &[bool]
+        ensures { result.now ≡ slice_index_or self.now.needs function [] }
+    {
+        match self.needs.as_slice().get(function as usize) {
+            Some(needs) => needs.as_slice(),
             None => &[],
         }
     }
@@ -162,6 +178,59 @@ impl Machine {
         }
     }
 
+    /// Does the instruction where a call stands, if it works in place.
+    fn in_place_at<M: Memory>(
+        &self,
+        hart: u8,
+        code: &[Instruction],
+        current: &mut Current,
+        state: &mut State<M>,
+    ) -> InPlace
+        requires code { code.now ≡ code_of self.now.program current.old.here.function }
+        ensures done { DoneInPlace self.now.program (λ k xs. acts self.now.program self.now.lets hart (seen current.old.here) current.old.at
+            (filled current.old.slots.items) (store state.old k xs)) result current.old.slots.items current.new.slots.items state.old state.new }
+        ensures here { current.new.here ≡ current.old.here }
+        ensures at { current.new.at ≡ current.old.at }
+    {
+        match instruction_at(code, current.at) {
+            Some(instruction) => in_place(
+                self,
+                hart,
+                &current.here,
+                instruction,
+                &mut current.slots,
+                state,
+            ),
+            None => InPlace::Left,
+        }
+    }
+
+    /// Runs the current function on while instructions work in place.
+    fn run_in_place<M: Memory>(
+        &self,
+        hart: u8,
+        code: &[Instruction],
+        table: &[usize],
+        current: &mut Current,
+        state: &mut State<M>,
+    ) -> Result<(), AllocError>
+        requires code { code.now ≡ code_of self.now.program current.old.here.function }
+        requires table { table.now ≡ table_of self.now.places current.old.here.function }
+        ensures { OnOk result ((k : ℕ) → Along self.now.program self.now.lets hart current.old state.old k current.new state.new k) }
+    {
+        'run: loop {
+            match self.in_place_at(hart, code, current, state) {
+                InPlace::Next => {
+                    current.at = next(current.at)?;
+                }
+                InPlace::Jump => {
+                    current.at = find(table, current.at);
+                }
+                InPlace::Left => return Ok(()),
+            }
+        }
+    }
+
     /// Runs the current function to its end or to a call.
     fn turn<M: Memory>(
         &self,
@@ -176,6 +245,7 @@ impl Machine {
         let code = self.code(current.here.function);
         let table = self.table(current.here.function);
         'run: loop {
+            self.run_in_place(hart, code, table, current, state)?;
             match self.act_at(alloc, hart, code, current, state, ticks)? {
                 Act::Go => {
                     current.at = next(current.at)?;

@@ -10,6 +10,7 @@ use crate::ended::ended;
 use crate::entries::Entries;
 use crate::machine::Machine;
 use crate::opened::work_out;
+use crate::zeros::needs_of_all;
 use jib::{Checked, Function, Instruction, label_place};
 use mem_store::Memory;
 use model_state::{Ended, Register, State};
@@ -83,6 +84,7 @@ impl Machine {
     {
         let Checked { program } = checked;
         let places = tables_of(alloc, program.functions.as_slice())?;
+        let needs = needs_of_all(alloc, program.functions.as_slice())?;
         let openings = Items::from_slice(alloc, program.openings.as_slice())?;
         let mut machine = Machine {
             program,
@@ -92,6 +94,7 @@ impl Machine {
             lets: Items::new(alloc),
             opened: Items::new(alloc),
             places,
+            needs,
         };
         let endings = work_out(alloc, &mut machine, openings.as_slice())?;
         machine.opened = endings;

@@ -1,12 +1,13 @@
 //! What one instruction does.
-ghost use Rattle.std.specs.Prelude.{◌≡◌, ℕ, List, IfOk, OnOk, slice_get, slice_index_or};
+ghost use Rattle.std.specs.Prelude.{◌≡◌, ℕ, List, true, IfOk, OnOk, slice_get, slice_index_or};
 ghost use Rattle.sail_types.specs.declared.values.Value.{Value as AValue, out-Value};
 ghost use Rattle.model_state.specs.RunState.{RunState, Access};
 ghost use Rattle.jib.specs.Jib as J;
 ghost use Rattle.jib.specs.declared.code.Module.{Module as AModule};
 ghost use Rattle.jib.specs.Values.{zero_of};
 ghost use Rattle.jib_values.specs.Sources.{filled, source_value, source_values};
-ghost use Rattle.jib_machine.specs.parts.Begun.{store, begun_slots};
+ghost use Rattle.jib_machine.specs.parts.Begun.{store, BegunWhere};
+ghost use Rattle.jib_machine.specs.parts.Unread.{Begins};
 ghost use Rattle.jib_values.specs.Results.{Wrote, MadeIs};
 ghost use Rattle.jib_machine.specs.parts.Acts.{Acted, seen};
 ghost use Rattle.jib_machine.specs.declared.act.Act.TheVariants as A;
@@ -15,6 +16,7 @@ use crate::act::{Act, Ending, Here};
 use crate::change::{part_of, put_part};
 use crate::fitting::{fitted, zero};
 use crate::machine::Machine;
+use crate::zeros::is_needed_at;
 use jib::{Call, Instruction, Operation, Source, Target};
 use jib_values::{Made, copied, lent, operate, push_values, put_slot, value_of, write};
 use mem_store::Memory;
@@ -133,7 +135,7 @@ fn copy<M: Memory>(
 }
 
 /// The type of a target of a function.
-fn type_of(machine: &Machine, function: u32, target: Target) -> u32
+pub fn type_of(machine: &Machine, function: u32, target: Target) -> u32
     ensures { result ≡ J.type_of machine.now.program function target }
 {
     match target {
@@ -233,8 +235,8 @@ fn entry_slots<M: Memory>(
     slots: &[Value],
     state: &State<M>,
 ) -> Result<Vec<Value>, AllocError>
-    ensures { IfOk result (λ new. filled new.items ≡ J.entry machine.now.program call.now.function (source_values machine.now.lets hart
-        state.now slots.now call.now.arguments)) }
+    ensures { IfOk result (λ new. Begins machine.now.program call.now.function (source_values machine.now.lets hart state.now slots.now
+        call.now.arguments) new.items) }
 {
     let types = machine.slots(call.function);
     let mut new = Vec::with_capacity(alloc, types.len())?;
@@ -248,7 +250,13 @@ fn entry_slots<M: Memory>(
         &call.arguments,
         &mut new,
     )?;
-    fill(alloc, machine, types, &mut new)?;
+    fill(
+        alloc,
+        machine,
+        types,
+        machine.needs(call.function),
+        &mut new,
+    )?;
     Ok(new)
 }
 
@@ -259,14 +267,14 @@ pub fn first_slots(
     function: u32,
     arguments: Vec<Value>,
 ) -> Result<Vec<Value>, AllocError>
-    ensures { IfOk result (λ new. filled new.items ≡ J.entry machine.now.program function arguments.items) }
+    ensures { IfOk result (λ new. Begins machine.now.program function arguments.items new.items) }
 {
     let types = machine.slots(function);
     let mut new = Vec::with_capacity(alloc, types.len())?;
     new.push(slot_zero(alloc, machine, slot_type(types, 0))?)?;
     let mut arguments = arguments;
     new.append(&mut arguments)?;
-    fill(alloc, machine, types, &mut new)?;
+    fill(alloc, machine, types, machine.needs(function), &mut new)?;
     Ok(new)
 }
 
@@ -287,17 +295,36 @@ fn slot_zero(alloc: Global, machine: &Machine, typ: Option<u32>) -> Result<Value
     }
 }
 
-/// Puts zeros behind some slots, up to the last.
+/// What a slot begins with: the zero of its type where it is needed, else unit.
+fn begun_value(
+    alloc: Global,
+    machine: &Machine,
+    types: &[u32],
+    needs: &[bool],
+    slot: usize,
+) -> Result<Value, AllocError>
+    ensures { IfOk result (λ value. slice_index_or needs.now slot true ≡ true → value ≡ J.slot_zero machine.now.program.types (slice_get
+        types.now slot)) }
+{
+    if is_needed_at(needs, slot) {
+        slot_zero(alloc, machine, slot_type(types, slot))
+    } else {
+        Ok(Value::Unit)
+    }
+}
+
+/// Puts what the others begin with behind some slots, up to the last.
 fn fill(
     alloc: Global,
     machine: &Machine,
     types: &[u32],
+    needs: &[bool],
     slots: &mut Vec<Value>,
 ) -> Result<(), AllocError>
-    ensures { OnOk result (filled slots.new.items ≡ begun_slots machine.now.program.types types.now slots.old.items) }
+    ensures { OnOk result (BegunWhere machine.now.program.types types.now needs.now slots.old.items slots.new.items) }
 {
     'fill: while slots.len() < types.len() {
-        slots.push(slot_zero(alloc, machine, slot_type(types, slots.len()))?)?;
+        slots.push(begun_value(alloc, machine, types, needs, slots.len())?)?;
     }
     Ok(())
 }

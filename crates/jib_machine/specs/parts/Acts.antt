@@ -12,6 +12,7 @@ use Rattle.jib_machine.specs.declared.act.Ending.TheVariants as N
 use Rattle.jib_machine.specs.declared.act.Here.{Here}
 use Rattle.jib_values.specs.Sources.{filled}
 use Rattle.jib_machine.specs.parts.Begun.{store}
+use Rattle.jib_machine.specs.parts.Unread.{Begins}
 
 abbrev pub seen : Here → J.Here
 seen h = record { function = h.function; place = h.place; measure = h.measure }
@@ -28,4 +29,4 @@ Acted m act (A.Jump l) old new s k t n = ((xs : List Access) → act xs ≡ J.Ju
 Acted m act (A.Sink o) old new s k t n = (z : ℤ) × (o ≡ Some z) × ((xs : List Access) → act xs ≡ J.Sink z) × (new ≡ old) × (t ≡ s) × (n ≡ k)
 Acted m act (A.Over e) old new s k t n = (xs : List Access) → (ys : List Access) × (act xs ≡ J.Over (outcome_of e (store t n ys)))
 Acted m act (A.Enter i f slots l p) old new s k t n =
-    (vs : List Value) × ((xs : List Access) → act xs ≡ J.Enter i f vs l p) × (filled slots.items ≡ J.entry m f vs) × (new ≡ old) × (t ≡ s) × (n ≡ k)
+    (vs : List Value) × ((xs : List Access) → act xs ≡ J.Enter i f vs l p) × Begins m f vs slots.items × (new ≡ old) × (t ≡ s) × (n ≡ k)

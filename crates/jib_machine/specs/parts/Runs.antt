@@ -4,7 +4,7 @@ use Rattle.sail_types.specs.declared.values.Value.{Value}
 use Rattle.model_state.specs.RunState.{RunState, Access}
 use Rattle.jib.specs.declared.code.Instruction.TheVariants as I
 use Rattle.jib.specs.declared.code.Module.{Module}
-use Rattle.jib.specs.Jib.{Outcome, Gives, Throws, Stops, Enter, acts, put, entry, code_of, at, Runs, jib_run}
+use Rattle.jib.specs.Jib.{Outcome, Gives, Throws, Stops, Enter, acts, put, code_of, at, Runs, jib_run}
 use Rattle.jib.specs.Openings.{begun}
 use Rattle.jib.proofs.Ticking.{Targets, Calls, Ticking, rank, worth, weight, limit}
 use Rattle.jib_machine.specs.declared.act.Ending.{Ending}
@@ -15,6 +15,7 @@ use Rattle.jib_machine.specs.declared.act.Turn.{Turn}
 use Rattle.jib_machine.specs.declared.act.Turn.TheVariants as U
 use Rattle.jib_values.specs.Sources.{filled}
 use Rattle.jib_machine.specs.parts.Begun.{store}
+use Rattle.jib_machine.specs.parts.Unread.{Begins}
 use Rattle.jib_machine.specs.parts.Acts.{seen, outcome_of}
 
 -- the table of a function: where the instruction at each place may jump to
@@ -49,7 +50,7 @@ module _ (m : Module) (ls : List Value) (hart : ℕ) where
   Turned cur s k (U.Enter i f slots l p) cur' t n =
       (vs : List Value) × Along cur s k cur' t n
       × ((xs : List Access) → acts m ls hart (seen cur'.here) cur'.at (filled cur'.slots.items) (store t n xs) ≡ Enter i f vs l p)
-      × (filled slots.items ≡ entry m f vs)
+      × Begins m f vs slots.items
 
 -- where a run began
 pub record Start : Type 0 where

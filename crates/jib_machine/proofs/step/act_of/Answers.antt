@@ -1,8 +1,9 @@
-use Rattle.std.proofs.Common.{◌∙◌, ap, ◌≡◌, refl, sym}
+use Rattle.std.proofs.Common.{◌∙◌, ap, ◌≡◌, refl, sym, subst}
 use Rattle.sail_types.specs.declared.values.Value.{out-Value}
 use Rattle.jib.specs.Jib as J
 use Rattle.jib_values.specs.Sources.{source_value, source_values, filled}
 use Rattle.jib_machine.specs.parts.Acts.{seen}
+use Rattle.jib_machine.specs.parts.Unread.{Begins}
 use Rattle.jib_machine.proofs.ActLaws.{did_copy, did_apply, did_call, did_not_jump, did_take, did_label, did_end, did_throw, did_stop}
 use Rattle.jib_machine.proofs.ActLaws.{did_no_measure, did_measure, did_tick}
 use Rattle.jib_machine.proofs.step.act_of.Goals as goal
@@ -24,9 +25,9 @@ pub returns-in_ok-slots-in-Call : goal.returns-in_ok-slots-in-Call
 returns-in_ok-slots-in-Call g c =
     did_call c.args.machine.now.program c.args.machine.now.lets c.args.hart (seen c.args.here.now) c.args.instruction.now c.args.slots.now.items
     c.args.state.now c.args.ticks.now
-    c.in-Call.call c.in_ok-slots-in-Call.slots c.in-Call.is (c.in_ok-slots-in-Call.ensures
-    ∙ ap (λ q. J.entry c.args.machine.now.program c.in-Call.call.function (source_values c.args.machine.now.lets c.args.hart c.args.state.now q
-    c.in-Call.call.arguments)) c.deref.ensures.value)
+    c.in-Call.call c.in_ok-slots-in-Call.slots c.in-Call.is
+    (subst (λ q. Begins c.args.machine.now.program c.in-Call.call.function (source_values c.args.machine.now.lets c.args.hart c.args.state.now q
+    c.in-Call.call.arguments) c.in_ok-slots-in-Call.slots.items) c.deref.ensures.value c.in_ok-slots-in-Call.ensures)
 
 pub returns-else-branch : goal.returns-else-branch
 returns-else-branch g c =
