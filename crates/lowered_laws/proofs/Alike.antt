@@ -130,6 +130,10 @@ module _ (g : AtWork) where
   head_places h k H.List n q fail = (list_places h k n q, refl)
   head_places h k H.Cons n q fail = (refl, refl)
 
+  -- what a direction gives
+  abbrev seen : Hand → ℕ → List Held
+  seen hd d = held_at hd.free (g.ways d).gives ∷ []
+
   step_alike : (st : Step) (a b : Hand) (fail : ℕ) → Alike a b → Alike (step_of st a fail) (step_of st b fail)
   step_alike (S.Opens i head k) a b fail e =
       let ha : Held = at_hand g.table (kit g) a.values i in
@@ -149,9 +153,10 @@ module _ (g : AtWork) where
     free = e.free;
   }
   step_alike (S.Sees i direction) a b fail e = record {
-    values = map-append (λ (h : Held). h.place) a.values [] ∙ (λ j. e.values j ++ []) ∙ sym (map-append (λ (h : Held). h.place) b.values []);
+    values = map-append (λ (h : Held). h.place) a.values (seen a direction) ∙ (λ j. e.values j ++ Temp (e.free j) ∷ [])
+        ∙ sym (map-append (λ (h : Held). h.place) b.values (seen b direction));
     names = e.names;
-    free = e.free;
+    free = ap (λ q. q + 1) e.free;
   }
 
   steps_alike : (ss : List Step) (a b : Hand) (fail : ℕ) → Alike a b → Alike (steps_hand g.table (kit g) ss a fail) (steps_hand g.table (kit g) ss b fail)

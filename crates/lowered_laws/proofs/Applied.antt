@@ -20,10 +20,10 @@ use Rattle.sail_core.specs.Making.{World, made}
 use Rattle.sail_core.specs.Targets.{called, payload_in}
 use Rattle.checked_meaning.specs.Items.{Item}
 use Rattle.sized_nodes.specs.declared.trees.Case.{Case}
-use Rattle.lowered_pieces.specs.Places.{Raised, Temp, from}
+use Rattle.lowered_pieces.specs.Places.{Mapped, Raised, Temp, from}
 use Rattle.lowered_pieces.specs.Moves.{retype}
 use Rattle.lowered_pieces.specs.Gathered.{only_end}
-use Rattle.lowered_pieces.specs.Forms.{Callees, End, Mapped, Piece, Stand, Tail, all_notes, answer_make, code_of, count_of, ends_of, made_code}
+use Rattle.lowered_pieces.specs.Forms.{Callees, End, Piece, Stand, Tail, all_notes, answer_make, code_of, count_of, ends_of, made_code}
 use Rattle.lowered_pieces.specs.Mapped.{applied_piece, direction_call, ends_with, fixed_end, if_fixed, operand_moved}
 use Rattle.lowered_laws.specs.Standing.{HasAt}
 use Rattle.lowered_laws.proofs.Pieces.{has_front, has_back}
@@ -35,6 +35,7 @@ use Rattle.lowered_laws.specs.Simulation.{Sits}
 use Rattle.lowered_laws.proofs.Follows.{no, close_then, open_then, onward}
 use Rattle.lowered_laws.proofs.States.{Is, Lands, held_good, after_put, after_raised, after_tested, after_time, writable_back, writable_front}
 use Rattle.lowered_laws.proofs.Ended.{made_from}
+use Rattle.lowered_laws.proofs.Called.{tick_good}
 use Rattle.lowered_laws.proofs.Ends.{EndsRight, made_right, then_gives, then_right, turn_right}
 use Rattle.lowered_laws.proofs.ClauseEnds.{ended_typed}
 use Rattle.lowered_laws.proofs.Had.{in_types}
@@ -166,7 +167,7 @@ module _ (g : AtWork) (callees : Callees) (w : World Item) (ok : CallsOk g calle
   paying o = payload_in place (out-Value o)
 
   abbrev whole : Tail → Stand → ℕ → ℕ → Option Sized → List Instruction
-  whole tail s l l' o = operand_moved (kit g) s.temp o it.takes ++ direction_call (kit g) place it s ∷ behind tail s l l'
+  whole tail s l l' o = operand_moved (kit g) s.temp o it.takes ++ I.Tick ∷ direction_call (kit g) place it s ∷ behind tail s l l'
 
   pub applied_good : (m : Run Item Item) (a : Piece) → Good g m a → EndsRight a.ends m → ends_with it.takes (fixed_end a.ends) ≡ true
       → callees.crosses d ≡ true → Good g (in_turn (m ∷ []) then calling) (applied_piece (kit g) place it cases_ gives_ a)
@@ -176,7 +177,7 @@ module _ (g : AtWork) (callees : Callees) (w : World Item) (ok : CallsOk g calle
         let l' : ℕ = l + 2 + count_of a in
         let c1 : List Instruction = code_of a s (l + 2) in
         let mv : List Instruction = retype (kit g) n (g.number it.takes) (g.number it.takes) in
-        let rest : List Instruction = direction_call (kit g) place it s ∷ behind tail s l l' in
+        let rest : List Instruction = I.Tick ∷ direction_call (kit g) place it s ∷ behind tail s l l' in
         let only = only_so it.takes a.ends said in
         let at1 : HasAt (own_code g) pc (c1 ++ (mv ++ rest)) = subst (λ o. HasAt (own_code g) pc (c1 ++ whole tail s l l' o)) only at_ in
         let end1 : pe ≡ pc + length (c1 ++ (mv ++ rest)) = subst (λ o. pe ≡ pc + length (c1 ++ whole tail s l l' o)) only end in
@@ -184,7 +185,8 @@ module _ (g : AtWork) (callees : Callees) (w : World Item) (ok : CallsOk g calle
         let p2 : ℕ = p1 + length mv in
         let h1 : HasAt (own_code g) p1 (mv ++ rest) = has_back (own_code g) pc c1 (mv ++ rest) p1 refl at1 in
         let h2 : HasAt (own_code g) p2 rest = has_back (own_code g) p1 mv rest p2 refl h1 in
-        let end2 : pe ≡ p2 + length rest = omega (arith, end1, length-append c1 (mv ++ rest), length-append mv rest) in
+        let end2 : pe ≡ p2 + 1 + length (direction_call (kit g) place it s ∷ behind tail s l l') =
+        omega (arith, end1, length-append c1 (mv ++ rest), length-append mv rest) in
         let H = Catches g s.depths s.scope ph n sl now in
         let N = Fails g s.depths s.scope pf n sl now in
         let D = Done g tail s pe sl now in
@@ -215,13 +217,16 @@ module _ (g : AtWork) (callees : Callees) (w : World Item) (ok : CallsOk g calle
               retyped g.m g.lets g.hart g.here g.ending (kit g) g.names g.slots n (g.number it.takes) (g.number it.takes) x.val p1 sl1 (bare t)
               (has_front (own_code g) p1 mv rest h1) same_number (in_types g x.val it.takes had)
               (λ sl2 td e2.
-              let enters : acts g.m g.lets g.hart g.here p2 sl2 (bare t)
+              tick_good g (w.enter d x.val) p2 sl2 t KO H N (h2.0, tt) thv
+              (λ left e thu.
+              let u : Now Item = record t { ticks = left } in
+              let enters : acts g.m g.lets g.hart g.here (p2 + 1) sl2 (bare u)
               ≡ Enter (g.name (Temp n) optioned) it.function (x.val ∷ []) s.on_throw place =
-              ap (λ o. act g.m g.lets g.hart g.here (or_stop o) sl2 (bare t)) h2.0
+              ap (λ o. act g.m g.lets g.hart g.here (or_stop o) sl2 (bare u)) h2.1.0
               ∙ ap (λ v. Enter (g.name (Temp n) optioned) it.function (v ∷ []) s.on_throw place) e2 in
-              ended tail s l l' p2 pe ph pf sl sl2 now t x set (writable_back s.depths a.notes (all_notes gives_) wr)
-              (after_tested g s.depths s.scope n sl sl1 sl2 now t td k1) h2 enters end2 (entering x t)
-              (ok.crosses place d x.val t there had.0 (omega (arith, k1.fewer, tk))) thv);
+              ended tail s l l' (p2 + 1) pe ph pf sl sl2 now u x set (writable_back s.depths a.notes (all_notes gives_) wr)
+              (after_time g s.depths s.scope n sl sl2 now t u refl refl (omega (arith, e)) (after_tested g s.depths s.scope n sl sl1 sl2 now t td k1)) h2.1
+              enters end2 (w.enter d x.val u) (ok.crosses place d x.val u there had.0 (omega (arith, e, k1.fewer, tk))) thu));
         })
         (λ v t q. q) (λ t q. q));
   }

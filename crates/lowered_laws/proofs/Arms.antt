@@ -1,8 +1,7 @@
 -- Flat arms: their steps open values in hand, and the body of the first that is taken is run with the names of its arm.
 use Rattle.std.proofs.Common.{◌≡◌, ◌∙◌, ℕ, suc, ◌+◌, ◌<◌, ◌≤◌, ℤ, Bool, true, false, List, [], ◌∷◌, ◌++◌, length, map, Option, Some, None, refl, sym, ap}
 use Rattle.std.proofs.Common.{subst, arith, length-append, eqb-true, if◌then◌else◌}
-use Rattle.std.specs.Prelude.{drop, nat_eq, nat_lt, slice_get}
-use Rattle.std.proofs.lemmas.List.{map-append}
+use Rattle.std.specs.Prelude.{drop, nat_eq, nat_lt}
 use Rattle.std.proofs.lemmas.Bool.{and_parts}
 use Rattle.std.proofs.lemmas.Bool.Decides.{nat_tests}
 use Rattle.sail_base.specs.declared.place.Place.{Place as TextPlace}
@@ -12,17 +11,15 @@ use Rattle.model_state.specs.declared.cause.Cause.TheVariants.{MatchFailure}
 use Rattle.size_values.specs.declared.sized.Sized.{Sized}
 use Rattle.jib.specs.declared.code.Instruction.{Instruction}
 use Rattle.jib.specs.declared.code.Instruction.TheVariants as I
-use Rattle.jib.specs.Jib.{Slots, Outcome, Store, put, Go, Over}
-use Rattle.sail_core.specs.declared.patterns.Step.{Step}
-use Rattle.sail_core.specs.declared.patterns.Step.TheVariants as S
+use Rattle.jib.specs.Jib.{Slots, Outcome, Store, put, slots_of, Go, Over}
 use Rattle.sail_core.specs.declared.patterns.Arm.{Arm}
 use Rattle.sail_core.specs.declared.patterns.Arm.TheVariants as A
 use Rattle.sail_core.specs.Run as R
-use Rattle.sail_core.specs.Run.{Local as Bound, Ended, Now, Run, falls, gives, leaving, local, needs, goes_on, stops, stuck, within, ◌then◌}
+use Rattle.sail_core.specs.Run.{Local as Bound, Ended, Now, Run, falls, leaving, goes_on, stops, stuck, within, ◌then◌}
 use Rattle.sail_core.specs.declared.tree.Giver.TheVariants as Gives
 use Rattle.sail_core.specs.Making.{World}
 use Rattle.sail_core.specs.Patterns as P
-use Rattle.sail_core.specs.Patterns.{as_run, found_in, looked, parts_of, step_meaning, steps_meaning, with_values, with_name}
+use Rattle.sail_core.specs.Patterns.{found_in, steps_meaning}
 use Rattle.sail_core.specs.Meaning.{arm_taken, first_of, held_by, let_in, names_noted, or_then}
 use Rattle.checked_meaning.specs.Checked.{Noted}
 use Rattle.checked_meaning.specs.Items.{Item, typs}
@@ -30,49 +27,35 @@ use Rattle.sized_meanings.specs.Present.{is_noted, is_present, present}
 use Rattle.lowered_pieces.specs.Places.{Place, Raised, Given, Local, Number, Temp, from, to}
 use Rattle.lowered_laws.specs.Standing.{HasAt, Tested, Told}
 use Rattle.lowered_laws.proofs.Pieces.{has_front, has_back}
-use Rattle.lowered_laws.proofs.Facts.{put_same, tested_here, tested_both, tested_less, below}
+use Rattle.lowered_laws.proofs.Facts.{put_same, tested_both, tested_less, below}
 use Rattle.lowered_laws.proofs.Steps.{go, jump, jump_past, moves, over, past}
 use Rattle.lowered_pieces.specs.Forms.{Named, Depths, kit_at, Stand, Tail, End, Piece, all_notes, code_of, count_of, has_ends, inside_piece}
 use Rattle.lowered_pieces.specs.Forms.{said as said_as}
 use Rattle.lowered_pieces.specs.Arms.{Choice, Held, Hand, Matched, arguments, choices, choices_at, given_held, held_at, in_hand, picked_of}
-use Rattle.lowered_pieces.specs.Arms.{choice_labels, places_of, arm_noted, at_hand, head_taken}
-use Rattle.lowered_pieces.specs.Arms.{step_taken, step_hand, steps_code, steps_hand, begun, moved, arm_hand}
+use Rattle.lowered_pieces.specs.Arms.{choice_labels, places_of, arm_noted}
+use Rattle.lowered_pieces.specs.Arms.{steps_code, begun, moved, arm_hand}
 use Rattle.lowered_pieces.specs.Arms.{arm_piece, arm_stand, choice_code, clauses_piece, else_piece, failing, fall_piece, first_piece, hand_of}
-use Rattle.lowered_pieces.specs.Arms.{let_piece, looks_code, match_piece, on_piece, stop_here, arm_fits, arms_fit, step_fits, steps_fit}
+use Rattle.lowered_pieces.specs.Arms.{let_piece, looks_code, match_piece, on_piece, stop_here, arm_fits, arms_fit}
 use Rattle.lowered_laws.specs.Simulation.{bare, Followed, AtWork, kit, own_code, reading, RunsOn, Low}
 use Rattle.lowered_laws.specs.Simulation.{handy, Settled, Holding, Writable, Holds, Passed, AllHad, Sits}
 use Rattle.lowered_laws.specs.Simulation.{Same, After, Done, Catches, Fails, LabelsStand, Good, GoodOn, Matches}
 use Rattle.lowered_laws.proofs.Follows.{no, onward, open_or, open_then}
 use Rattle.value_indices.specs.declared.indices.Indices.{Indices}
 use Rattle.lowered_laws.proofs.Noted.{Left, handy_lasting, lasting_less, lower_lasts, names_good}
-use Rattle.lowered_pieces.specs.Nodes.{is_empty}
 use Rattle.lowered_laws.specs.Simulation.{Varies}
 use Rattle.lowered_laws.proofs.States.{unread_varied, varies_by}
-use Rattle.lowered_laws.proofs.States.{Is, holds_by, passed_by, lower_more, same_tested, after_here, after_tested, after_put, after_time}
+use Rattle.lowered_laws.proofs.States.{Is, holds_by, passed_by, lower_more, same_tested, after_here, after_tested, after_put, after_raised, after_time}
 use Rattle.lowered_laws.proofs.States.{writable_front, writable_back, done_on, done_at, catch_on, fail_on, case_good, Lands, held_good}
 use Rattle.lowered_laws.proofs.Inside.{inside_on}
 use Rattle.lowered_laws.proofs.Ends.{EndsIn, EndsRight, then_gives}
 use Rattle.lowered_laws.proofs.Calls.{GoodAll}
-use Rattle.lowered_laws.proofs.Heads.{handy_free, handy_lower, handy_more, handy_here, settled_more, settled_both, holding_tested, holding_both}
-use Rattle.lowered_laws.proofs.Heads.{held_is}
+use Rattle.lowered_laws.proofs.Heads.{handy_lower, handy_here, settled_more, settled_both, holding_tested, holding_both}
 use Rattle.lowered_laws.proofs.Cuts.{Widths}
 use Rattle.lowered_laws.proofs.Alike.{Alike, first_alike}
-use Rattle.lowered_laws.proofs.Opening.{head_runs}
+use Rattle.lowered_laws.proofs.ArmSteps.{HandIs, Handy, Later, Sees, Unread, answered_by, found_both, steps_run}
 use Rattle.lowered_laws.proofs.Works.{none_is, some_same}
 
 -- ---- names of an arm stand where its values do
-
-abbrev pub Handy : ℕ → List Named → Type 0
-Handy q [] = Unit {0}
-Handy q (y ∷ ys) = (handy q y.place ≡ true) × Handy q ys
-
-handy_names : (q r : ℕ) (ys : List Named) → q ≤ r → Handy q ys → Handy r ys
-handy_names q r [] le h = tt
-handy_names q r (y ∷ ys) le h = (handy_more q r y.place le h.0, handy_names q r ys le h.1)
-
-handy_both : (q : ℕ) (ys zs : List Named) → Handy q ys → Handy q zs → Handy q (ys ++ zs)
-handy_both q [] zs h k = k
-handy_both q (y ∷ ys) zs h k = (h.0, handy_both q ys zs h.1 k)
 
 low_upto : (n k : ℕ) (ys : List Named) → n ≤ k → Low n ys → Low k ys
 low_upto n k [] le h = tt
@@ -108,20 +91,6 @@ open_resets opened r R.Stuck K H N z = z
 module _ (g : AtWork) where
   -- ---- what an arm has in hand
 
-  found_tested : (q : ℕ) (sl sl' : Slots) (ys : List Named) (ls : List (Bound Item)) → Tested (kit g) q sl sl' → Handy q ys → Holds g sl ys ls
-      → Holds g sl' ys ls
-  found_tested q sl sl' [] [] td h v = tt
-  found_tested q sl sl' [] (l ∷ ls) td h v = absurd v
-  found_tested q sl sl' (y ∷ ys) [] td h v = absurd v
-  found_tested q sl sl' (y ∷ ys) (l ∷ ls) td h v =
-      (v.0, td.others y.place (g.number l.held.typ) (handy_free q y.place h.0) ∙ v.1, found_tested q sl sl' ys ls td h.1 v.2)
-
-  found_both : (sl : Slots) (ys zs : List Named) (ls ms : List (Bound Item)) → Holds g sl ys ls → Holds g sl zs ms → Holds g sl (ys ++ zs) (ls ++ ms)
-  found_both sl [] zs [] ms h k = k
-  found_both sl [] zs (l ∷ ls) ms h k = absurd h
-  found_both sl (y ∷ ys) zs [] ms h k = absurd h
-  found_both sl (y ∷ ys) zs (l ∷ ls) ms h k = (h.0, h.1, found_both sl ys zs ls ms h.2 k)
-
   found_many : (sl : Slots) (ys : List Named) (ls : List (Bound Item)) → Holds g sl ys ls → length ls ≡ length ys
   found_many sl [] [] h = refl
   found_many sl [] (l ∷ ls) h = absurd h
@@ -133,16 +102,7 @@ module _ (g : AtWork) where
   found_gone sl (y ∷ ys) zs [] h = absurd h
   found_gone sl (y ∷ ys) zs (l ∷ ls) h = found_gone sl ys zs ls h.2
 
-  -- names of which no variables are read
-  abbrev pub Unread : List Named → Type 0
-  Unread [] = Unit {0}
-  Unread (y ∷ ys) = (is_empty (g.tables.reads y.name) ≡ true) × Unread ys
-
-  unread_both : (ys zs : List Named) → Unread ys → Unread zs → Unread (ys ++ zs)
-  unread_both [] zs h k = k
-  unread_both (y ∷ ys) zs h k = (h.0, unread_both ys zs h.1 k)
-
-  varies_both : (q : ℕ) (sl : Slots) (ys zs : List Named) (ls ms : List (Bound Item)) → Handy q ys → Unread ys → Holds g sl ys ls → Varies g sl zs ms
+  varies_both : (q : ℕ) (sl : Slots) (ys zs : List Named) (ls ms : List (Bound Item)) → Handy q ys → Unread g ys → Holds g sl ys ls → Varies g sl zs ms
       → Varies g sl (ys ++ zs) (ls ++ ms)
   varies_both q sl [] zs [] ms h u v k = k
   varies_both q sl [] zs (l ∷ ls) ms h u v k = absurd v
@@ -159,126 +119,9 @@ module _ (g : AtWork) where
       none_varied (z ∷ zs) = tt
   varies_gone sl (y ∷ ys) zs (l ∷ ls) h = varies_gone sl ys zs ls h.1
 
-  pub record HandIs (hd : Hand) (hr : P.Hand Item) (sl : Slots) : Type 0 where
-    pub settled : Settled hd.free hd.values
-    pub holding : Holding g sl hd.values hr.values
-    pub named : Handy hd.free hd.names
-    pub unread : Unread hd.names
-    pub found : Holds g sl hd.names hr.found
-    pub kept : Settled hd.free hd.named
-    pub held : Holding g sl hd.named (map held_by hr.found)
-
-  abbrev step_of : Step → Hand → ℕ → Hand
-  step_of st hd fail = step_hand g.table (kit g) st hd fail
-
-  abbrev code_in : Step → Hand → ℕ → List Instruction
-  code_in st hd fail = (step_taken g.table (kit g) st hd fail).code
-
-  -- what is lowered, where what is known of the variables is so
-  abbrev pub Fit : World Item → Bool → Type 0
-  Fit w b = (b ≡ true) × Widths g w.numbers
-
-  -- ---- a step
-
-  step_run : (st : Step) (w : World Item) → Fit w (step_fits g.size g.tables.reads st)
-      → (hd : Hand) (hr : P.Hand Item) (pc pf fail : ℕ) (sl : Slots) (t : Now Item)
-      (K : P.Hand Item → Now Item → Type 0) (H : Value → Now Item → Type 0) (N : Now Item → Type 0) → HandIs hd hr sl
-      → HasAt (own_code g) pc (code_in st hd fail)
-      → slice_get (own_code g) pf ≡ Some (I.Label fail) → Followed g.ending (step_meaning (reading g) w st hr t) K H N
-      → ((hr2 : P.Hand Item) (sl2 : Slots) → Tested (kit g) hd.free sl sl2 → HandIs (step_of st hd fail) hr2 sl2 → hd.free ≤ (step_of st hd fail).free
-      → K hr2 t → RunsOn g (pc + length (code_in st hd fail)) sl2 (bare t))
-      → ((sl2 : Slots) → Tested (kit g) hd.free sl sl2 → N t → RunsOn g pf sl2 (bare t))
-      → RunsOn g pc sl (bare t)
-  step_run (S.Opens i head k) w lowered hd hr pc pf fail sl t K H N hi at_ hl th next failed = by (slice_get hr.values i) refl th
-    where
-      h : Held
-      h = at_hand g.table (kit g) hd.values i
-
-      by : (o : Option Item) → slice_get hr.values i ≡ o
-          → Followed g.ending (goes_on (needs o t) (λ x. parts_of (reading g) w head k x then λ xs. gives (with_values hr xs))) K H N → RunsOn g pc sl (bare t)
-      by None e z = absurd z
-      by (Some x) e z =
-          head_runs g w.numbers lowered.1 head k hd.free fail h lowered.0 x pc pf sl t (λ xs u. K (with_values hr xs) u) H N
-          (held_is g hd.free sl hd.values hr.values i x hi.settled hi.holding e) at_ hl
-          (open_then g.ending (as_run (looked (reading g) w.numbers head k x) t) (λ xs. gives (with_values hr xs)) K H N z)
-          (λ xs sl2 td holding settled le kx.
-          let r : ℕ = (head_taken g.table (kit g) h head k hd.free fail).free in
-          let parts : List Held = (head_taken g.table (kit g) h head k hd.free fail).parts in
-          next (with_values hr xs) sl2 td (record {
-            settled = settled_both r hd.values parts (settled_more hd.free r hd.values le hi.settled) settled;
-            holding = holding_both g sl2 hd.values parts hr.values xs
-                (holding_tested g hd.free sl sl2 hd.values hr.values td hi.settled hi.holding) holding;
-            named = handy_names hd.free r hd.names le hi.named;
-            unread = hi.unread;
-            found = found_tested hd.free sl sl2 hd.names hr.found td hi.named hi.found;
-            kept = settled_more hd.free r hd.named le hi.kept;
-            held = holding_tested g hd.free sl sl2 hd.named (map held_by hr.found) td hi.kept hi.held;
-          }) le kx)
-          failed
-  step_run (S.Names i name) w lowered hd hr pc pf fail sl t K H N hi at_ hl th next failed = by (slice_get hr.values i) refl th
-    where
-      h : Held
-      h = at_hand g.table (kit g) hd.values i
-
-      y : Named
-      y = record { name = name; place = h.place }
-
-      kept : (hs : List Held) (xs : List Item) → Holding g sl hs xs → Holding g sl (hs ++ []) xs
-      kept [] [] z = tt
-      kept [] (x ∷ xs) z = absurd z
-      kept (k ∷ hs) [] z = absurd z
-      kept (k ∷ hs) (x ∷ xs) z = (z.0, z.1, z.2, kept hs xs z.3)
-
-      by : (o : Option Item) → slice_get hr.values i ≡ o → Followed g.ending (goes_on (needs o t) (λ x. gives (with_name hr name x))) K H N
-          → RunsOn g pc sl (bare t)
-      by None e z = absurd z
-      by (Some x) e z =
-          let held = held_is g hd.free sl hd.values hr.values i x hi.settled hi.holding e in
-          let stands : sl (g.name h.place (g.number x.typ)) ≡ x.val = subst (λ s. sl (g.name h.place (g.number s)) ≡ x.val) held.same held.stands in
-          moves g.m g.lets g.hart g.here g.ending (pc + 0) pc sl (bare t) (omega arith)
-          (next (with_name hr name x) sl (tested_here (kit g) hd.free sl) (record {
-            settled = settled_both hd.free hd.values [] hi.settled tt;
-            holding = kept hd.values hr.values hi.holding;
-            named = handy_both hd.free hd.names (y ∷ []) hi.named (held.there, tt);
-            unread = unread_both hd.names (y ∷ []) hi.unread (lowered.0, tt);
-            found = found_both sl hd.names (y ∷ []) hr.found (local name x ∷ []) hi.found (refl, stands, tt);
-            kept = settled_both hd.free hd.named (h ∷ []) hi.kept (held.there, tt);
-            held = subst (λ xs. Holding g sl (hd.named ++ h ∷ []) xs) (sym (map-append held_by hr.found (local name x ∷ [])))
-                (holding_both g sl hd.named (h ∷ []) (map held_by hr.found) (x ∷ []) hi.held (held.same, held.stands, held.had, tt));
-          }) (omega arith) z)
-  step_run (S.Sees i direction) w lowered hd hr pc pf fail sl t K H N hi at_ hl th next failed = no lowered.0
-
-  -- ---- the steps of an arm
-
-  pub steps_run : (ss : List Step) (w : World Item) → Fit w (steps_fit g.size g.tables.reads ss)
-      → (hd : Hand) (hr : P.Hand Item) (pc pf fail : ℕ) (sl : Slots) (t : Now Item)
-      (K : P.Hand Item → Now Item → Type 0) (H : Value → Now Item → Type 0) (N : Now Item → Type 0) → HandIs hd hr sl
-      → HasAt (own_code g) pc (steps_code g.table (kit g) ss hd fail) → slice_get (own_code g) pf ≡ Some (I.Label fail)
-      → Followed g.ending (steps_meaning (reading g) w ss hr t) K H N
-      → ((hr2 : P.Hand Item) (sl2 : Slots) → Tested (kit g) hd.free sl sl2 → HandIs (steps_hand g.table (kit g) ss hd fail) hr2 sl2
-      → hd.free ≤ (steps_hand g.table (kit g) ss hd fail).free → K hr2 t → RunsOn g (pc + length (steps_code g.table (kit g) ss hd fail)) sl2 (bare t))
-      → ((sl2 : Slots) → Tested (kit g) hd.free sl sl2 → N t → RunsOn g pf sl2 (bare t))
-      → RunsOn g pc sl (bare t)
-  steps_run [] w lowered hd hr pc pf fail sl t K H N hi at_ hl th next failed =
-      moves g.m g.lets g.hart g.here g.ending (pc + 0) pc sl (bare t) (omega arith) (next hr sl (tested_here (kit g) hd.free sl) hi (omega arith) th)
-  steps_run (s ∷ ss) w lowered hd hr pc pf fail sl t K H N hi at_ hl th next failed =
-      let both = and_parts (step_fits g.size g.tables.reads s) (steps_fit g.size g.tables.reads ss) lowered.0 in
-      let hd2 : Hand = step_of s hd fail in
-      let c1 : List Instruction = code_in s hd fail in
-      let c2 : List Instruction = steps_code g.table (kit g) ss hd2 fail in
-      let p1 : ℕ = pc + length c1 in
-      step_run s w (both.0, lowered.1) hd hr pc pf fail sl t (λ hr2 u. Followed g.ending (steps_meaning (reading g) w ss hr2 u) K H N) H N hi
-      (has_front (own_code g) pc c1 c2 at_) hl
-      (open_then g.ending (step_meaning (reading g) w s hr t) (steps_meaning (reading g) w ss) K H N th)
-      (λ hr2 sl2 td hi2 le z.
-      let far : (sl3 : Slots) → Tested (kit g) hd2.free sl2 sl3 → Tested (kit g) hd.free sl sl3 =
-      λ sl3 td3. tested_both (kit g) hd.free sl sl2 sl3 td (tested_less (kit g) hd.free hd2.free sl2 sl3 le td3) in
-      steps_run ss w (both.1, lowered.1) hd2 hr2 p1 pf fail sl2 t K H N hi2 (has_back (own_code g) pc c1 c2 p1 refl at_) hl z
-      (λ hr3 sl3 td3 hi3 le3 z3.
-      moves g.m g.lets g.hart g.here g.ending (pc + length (c1 ++ c2)) (p1 + length c2) sl3 (bare t) (omega (arith, length-append c1 c2))
-      (next hr3 sl3 (far sl3 td3) hi3 (omega (arith, le, le3)) z3))
-      (λ sl3 td3 n. failed sl3 (far sl3 td3) n))
-      failed
+  -- what is lowered, where what is known of the variables is so, and each of these directions is answered
+  abbrev pub Fit : World Item → (ℕ → Bool) → Bool → Type 0
+  Fit w crosses b = (b ≡ true) × Widths g w.numbers × Sees g w crosses
 
   -- ---- moments with more places in hand
 
@@ -352,29 +195,35 @@ module _ (g : AtWork) where
   found_left d p sl sl' (y ∷ ys) (l ∷ ls) left h v =
       (v.0, left.others y.place (g.number l.held.typ) (handy_lasting d.here p y.place h.0) ∙ v.1, found_left d p sl sl' ys ls left h.1 v.2)
 
+  pub same_later : (d : Depths) (scope : List Named) (n : ℕ) (sl : Slots) (now u : Now Item) → Later g now u → Same g d scope n sl now → Same g d scope n sl u
+  same_later d scope n sl now u later s =
+      (after_time g d scope n sl sl now now u later.locals later.opened later.fewer (after_here g d scope n sl now s)).same
+
   -- behind its steps, and what its names give: places from q on were free, and names stand as those of another hand
-  module _ (s : Stand) (q : ℕ) (hd hd0 : Hand) (hr : P.Hand Item) (sl sl1 sl2 : Slots) (now : Now Item) (more : Noted)
-      (same : Same g s.depths s.scope s.temp sl now) (td : Tested (kit g) q sl sl1) (hi : HandIs hd hr sl1) (up : s.temp ≤ q) (le : q ≤ hd.free)
+  module _ (s : Stand) (q : ℕ) (hd hd0 : Hand) (hr : P.Hand Item) (sl sl1 sl2 : Slots) (now u : Now Item) (more : Noted)
+      (same : Same g s.depths s.scope s.temp sl now) (later : Later g now u) (td : Tested (kit g) q sl sl1) (hi : HandIs g hd hr sl1) (up : s.temp ≤ q)
+      (le : q ≤ hd.free)
       (left : Left g s.depths hd.free sl1 sl2) (told : Told (kit_at (kit g) s.depths) more sl2) (alike : Alike g hd hd0) where
     abbrev inner_now : Now Item
-    inner_now = record now { locals = hr.found ++ now.locals; opened = more }
+    inner_now = record u { locals = hr.found ++ u.locals; opened = more }
 
     arm_same : Same g s.depths (hd0.names ++ s.scope) hd0.free sl2 inner_now
     arm_same =
-        let k = same_tested g s.depths s.scope s.temp sl sl1 now (tested_less (kit g) s.temp q sl sl1 up td) same in
+        let k = same_tested g s.depths s.scope s.temp sl sl1 u (tested_less (kit g) s.temp q sl sl1 up td)
+        (same_later s.depths s.scope s.temp sl now u later same) in
         subst (λ ys. Same g s.depths (ys ++ s.scope) hd0.free sl2 inner_now) alike.names
         (subst (λ n. Same g s.depths (hd.names ++ s.scope) n sl2 inner_now) alike.free
         (record {
-          locals = found_both sl2 hd.names s.scope hr.found now.locals (found_left s.depths hd.free sl1 sl2 hd.names hr.found left hi.named hi.found)
-              (holds_by g s.temp (length s.scope) sl1 sl2 s.scope now.locals (omega arith)
+          locals = found_both g sl2 hd.names s.scope hr.found u.locals (found_left s.depths hd.free sl1 sl2 hd.names hr.found left hi.named hi.found)
+              (holds_by g s.temp (length s.scope) sl1 sl2 s.scope u.locals (omega arith)
               (λ p t h. left.others p t (lower_lasts s.depths.here s.temp (length s.scope) hd.free p (omega (arith, up, le)) h)) k.low k.locals);
           noted = told;
           low = low_both hd.free hd.names s.scope hi.named (low_upto s.temp hd.free s.scope (omega (arith, up, le)) k.low);
           shallow = k.shallow;
           passed = passed_by g sl1 sl2 (λ i t. left.others (Given i) t refl) 0 g.arguments k.passed;
-          varied = varies_both hd.free sl2 hd.names s.scope hr.found now.locals hi.named hi.unread
+          varied = varies_both hd.free sl2 hd.names s.scope hr.found u.locals hi.named hi.unread
               (found_left s.depths hd.free sl1 sl2 hd.names hr.found left hi.named hi.found)
-              (varies_by g s.temp (length s.scope) sl1 sl2 s.scope now.locals (omega arith)
+              (varies_by g s.temp (length s.scope) sl1 sl2 s.scope u.locals (omega arith)
               (λ p t h. left.others p t (lower_lasts s.depths.here s.temp (length s.scope) hd.free p (omega (arith, up, le)) h)) k.low k.varied);
         }))
 
@@ -400,7 +249,7 @@ module _ (g : AtWork) where
           given = λ i u. k.given i u ∙ left.others (Given i) u refl ∙ td.others (Given i) u refl;
           numbers = λ x e lt.
               k.numbers x e lt ∙ left.others (Number x e) (kit g).integer (lasting_less s.depths.here e lt) ∙ td.others (Number x e) (kit g).integer refl;
-          fewer = k.fewer;
+          fewer = omega (arith, k.fewer, later.fewer);
         }
 
   -- the values are as many as the arm's
@@ -410,11 +259,11 @@ module _ (g : AtWork) where
   counted_by true X run now next K H N z f = f z
   counted_by false X run now next K H N z f = absurd z
 
-  pub arm_on : (w : World Item) (k j : ℕ) (arm : Arm) (m : Matched) (xs : List Item) (mb : Run Item Item) (b : Piece)
-      → Fit w (arm_fits g.size g.tables.reads arm)
+  pub arm_on : (w : World Item) (crosses : ℕ → Bool) (k j : ℕ) (arm : Arm) (m : Matched) (xs : List Item) (mb : Run Item Item) (b : Piece)
+      → Fit w crosses (arm_fits g.size crosses g.tables.reads arm)
       → Good g mb b → GoodOn g m xs (arm_taken (reading g) w (Gives.Arm k j) arm mb xs) (arm_piece g.table (kit g) (g.tables.named k j) m arm b)
-  arm_on w k j (A.Nested ps) m xs mb b lowered gb = no lowered.0
-  arm_on w k j (A.Flat n ss) m xs mb b lowered gb = record {
+  arm_on w crosses k j (A.Nested ps) m xs mb b lowered gb = no lowered.0
+  arm_on w crosses k j (A.Flat n ss) m xs mb b lowered gb = record {
     run = λ tail s l pc pe ph pf sl now tk end at_ set same wr mt th.
         let is : List Indices = g.tables.named k j in
         let q : ℕ = s.temp + places_of m in
@@ -433,7 +282,7 @@ module _ (g : AtWork) where
         let lb : ℕ = l + choice_labels m in
         let c2 : List Instruction = b.ended inner r lb in
         let p1 : ℕ = pc + length c1 in
-        let d1 : List Instruction = steps_code g.table (kit g) ss hd1 s.on_no in
+        let d1 : List Instruction = steps_code g.table (kit g) ss hd1 s.on_throw s.on_no in
         let d2 : List Instruction = arm_noted (kit_at (kit g) s.depths) is (vs ++ hd.named) hd.free in
         let D = Done g tail s pe sl now in
         let H = Catches g s.depths s.scope ph s.temp sl now in
@@ -441,34 +290,43 @@ module _ (g : AtWork) where
         let next : List (Bound Item) → Run Item Item = λ found. names_noted (reading g) (Gives.Arm k j) xs found then λ t. within found mb in
         let K1 : List (Bound Item) → Now Item → Type 0 = λ found t. Followed g.ending (next found t) D H N in
         let o1 : Ended Item (P.Hand Item) = steps_meaning (reading g) w ss hr0 now in
+        let raised_is : Is g Raised g.exception = subst (λ i. i < length (slots_of g.m g.here.function)) (sym g.names.raised) g.names.first in
+        let stays_by : (n2 : ℕ) (sl2 : Slots) (u : Now Item) → s.temp ≤ n2 → n2 ≤ q → Tested (kit g) q sl sl2 → Later g now u
+        → After g s.depths s.scope n2 sl now sl2 u =
+        λ n2 sl2 u lo hi2 td later.
+        after_tested g s.depths s.scope n2 sl sl sl2 now u (tested_less (kit g) n2 q sl sl2 hi2 td)
+        (after_time g s.depths s.scope n2 sl sl now now u later.locals later.opened later.fewer
+        (after_here g s.depths s.scope n2 sl now (same_upto s.depths s.scope s.temp n2 sl now lo same))) in
         counted_by (nat_eq (length xs) n) (RunsOn g pc sl (bare now)) (steps_meaning (reading g) w ss hr0 then found_in) now next D H N th
         (λ z.
         case_good g picked_of s.depths q 0 look now.opened (bare now) mt.choice cs l pc p1 sl mt.there same.noted refl (has_front (own_code g) pc c1 c2 at_)
         (λ l1 pc1 sl1 td0 hp out.
         let pn : ℕ = pc1 + length d1 in
         let hold1 : Holding g sl1 vs xs = holding_tested g q sl sl1 vs xs td0 mt.settled mt.holding in
-        steps_run ss w lowered hd1 hr0 pc1 pf s.on_no sl1 now (λ hr t. K1 hr.found t) H N
-        (record { settled = mt.settled; holding = hold1; named = tt; unread = tt; found = tt; kept = tt; held = tt }) (has_front (own_code g) pc1 d1 d2 hp)
-        set.fails
+        steps_run g w crosses lowered.1 ph pf s.on_throw s.on_no set.throws set.fails H N ss lowered.0 hd1 hr0 pc1 sl1 now (λ hr t. K1 hr.found t)
+        (record { settled = mt.settled; holding = hold1; named = tt; unread = tt; found = tt; kept = tt; held = tt })
+        (answered_by g w crosses now tk lowered.2) (has_front (own_code g) pc1 d1 d2 hp)
         (open_then g.ending o1 found_in K1 H N (open_then g.ending (goes_on o1 found_in) next D H N z))
-        (λ hr sl2 td1 hi le z1.
+        (λ hr sl2 u td1 later hi le z1.
         let td : Tested (kit g) q sl sl2 = tested_both (kit g) q sl sl1 sl2 td0 td1 in
-        names_good g s.depths k j (vs ++ hd.named) (xs ++ map held_by hr.found) hd.free pn sl2 now (within hr.found mb) D H N
+        names_good g s.depths k j (vs ++ hd.named) (xs ++ map held_by hr.found) hd.free pn sl2 u (within hr.found mb) D H N
         (writable_front s.depths (all_notes is) b.notes wr) (has_back (own_code g) pc1 d1 d2 pn refl hp)
         (settled_both hd.free vs hd.named (settled_more q hd.free vs le mt.settled) hi.kept)
         (holding_both g sl2 vs hd.named xs (map held_by hr.found) (holding_tested g q sl1 sl2 vs xs td1 mt.settled hold1) hi.held)
-        (same_tested g s.depths s.scope s.temp sl sl2 now (tested_less (kit g) s.temp q sl sl2 up td) same).noted z1
+        (same_tested g s.depths s.scope s.temp sl sl2 u (tested_less (kit g) s.temp q sl sl2 up td)
+        (same_later s.depths s.scope s.temp sl now u later same)).noted z1
         (λ more sl3 left told z2.
         let i : ℕ = length hr.found in
-        let now1 : Now Item = record now { locals = hr.found ++ now.locals; opened = more } in
+        let now1 : Now Item = record u { locals = hr.found ++ u.locals; opened = more } in
         let gone : Now Item → Now Item = λ t. record t { locals = drop i t.locals } in
         let back_ : (n2 : ℕ) → s.temp ≤ n2 → n2 ≤ q → (sl4 : Slots) (t : Now Item) → After g s.depths r.scope r.temp sl3 now1 sl4 t
         → After g s.depths s.scope n2 sl now sl4 (gone t) =
-        λ n2 lo hi2 sl4 t k4. arm_left s q hd hd0 hr sl sl2 sl3 now more same td hi up le left told alike n2 lo hi2 sl4 t k4 in
-        moves g.m g.lets g.hart g.here g.ending (pc1 + length (d1 ++ d2)) (pn + length d2) sl3 (bare now) (omega (arith, length-append d1 d2))
-        (out sl3 (bare now)
-        (gb.run inner r lb p1 pe ph pf sl3 now1 tk (omega (arith, end, length-append c1 c2)) (has_back (own_code g) pc c1 c2 p1 refl at_)
-        (record { throws = set.throws; fails = set.fails }) (arm_same s q hd hd0 hr sl sl2 sl3 now more same td hi up le left told alike)
+        λ n2 lo hi2 sl4 t k4. arm_left s q hd hd0 hr sl sl2 sl3 now u more same later td hi up le left told alike n2 lo hi2 sl4 t k4 in
+        moves g.m g.lets g.hart g.here g.ending (pc1 + length (d1 ++ d2)) (pn + length d2) sl3 (bare u) (omega (arith, length-append d1 d2))
+        (out sl3 (bare u)
+        (gb.run inner r lb p1 pe ph pf sl3 now1 (omega (arith, later.fewer, tk)) (omega (arith, end, length-append c1 c2))
+        (has_back (own_code g) pc c1 c2 p1 refl at_)
+        (record { throws = set.throws; fails = set.fails }) (arm_same s q hd hd0 hr sl sl2 sl3 now u more same later td hi up le left told alike)
         (writable_back s.depths (all_notes is) b.notes wr)
         (onward g.ending (mb now1) (λ x t. D x (gone t)) (λ v t. H v (gone t)) (λ t. N (gone t)) (Done g inner r pe sl3 now1)
         (Catches g s.depths r.scope ph r.temp sl3 now1) (Fails g s.depths r.scope pf r.temp sl3 now1) (open_within i g.ending (mb now1) D H N z2)
@@ -478,9 +336,12 @@ module _ (g : AtWork) where
         })
         (λ v t c. record { by = λ sl4 k4 e2. c.by sl4 (back_ s.temp (omega arith) up sl4 t k4) e2 })
         (λ t f. record { by = λ sl4 k4. f.by sl4 (back_ q up (omega arith) sl4 t k4) }))))))
-        (λ sl2 td1 f.
-        f.by sl2 (after_tested g s.depths s.scope q sl sl sl2 now now (tested_both (kit g) q sl sl1 sl2 td0 td1)
-        (after_here g s.depths s.scope q sl now (same_upto s.depths s.scope s.temp q sl now up same))))));
+        (λ sl2 u td1 later f. f.by sl2 (stays_by q sl2 u (omega arith) (omega arith) (tested_both (kit g) q sl sl1 sl2 td0 td1) later))
+        (λ sl2 v u td1 later c.
+        c.by (put sl2 (g.name Raised g.exception) v)
+        (after_raised g s.depths s.scope s.temp sl sl2 now u v raised_is
+        (stays_by s.temp sl2 u (omega arith) up (tested_both (kit g) q sl sl1 sl2 td0 td1) later))
+        (put_same sl2 (g.name Raised g.exception) v))));
   }
 
   -- ---- one, and where it says No another
@@ -606,24 +467,25 @@ module _ (g : AtWork) where
         (same_upto s.depths s.scope s.temp (s.temp + places_of m) sl now (omega arith) same)));
   }
 
-  pub first_on : (w : World Item) (k : ℕ) (m : Matched) (xs : List Item) (arms : List Arm) (ms : List (Run Item Item)) (bs : List Piece)
-      (mn : Run Item Item) (none : Piece) → Fit w (arms_fit g.size g.tables.reads arms) → GoodAll g ms bs → GoodOn g m xs mn none
+  pub first_on : (w : World Item) (crosses : ℕ → Bool) (k : ℕ) (m : Matched) (xs : List Item) (arms : List Arm) (ms : List (Run Item Item)) (bs : List Piece)
+      (mn : Run Item Item) (none : Piece) → Fit w crosses (arms_fit g.size crosses g.tables.reads arms) → GoodAll g ms bs → GoodOn g m xs mn none
       → GoodOn g m xs (first_of (reading g) w k arms ms mn xs) (first_piece g.table (kit g) (g.tables.named k) m arms bs none)
-  first_on w k m xs [] [] [] mn none lowered all gn = gn
-  first_on w k m xs [] [] (b ∷ bs) mn none lowered all gn = absurd all
-  first_on w k m xs [] (y ∷ ms) bs mn none lowered all gn = stuck_on m xs (first_piece g.table (kit g) (g.tables.named k) m [] bs none)
-  first_on w k m xs (arm ∷ arms) [] bs mn none lowered all gn = stuck_on m xs (first_piece g.table (kit g) (g.tables.named k) m (arm ∷ arms) bs none)
-  first_on w k m xs (arm ∷ arms) (y ∷ ms) [] mn none lowered all gn = absurd all
-  first_on w k m xs (arm ∷ arms) (y ∷ ms) (b ∷ bs) mn none lowered all gn =
-      let both = and_parts (arm_fits g.size g.tables.reads arm) (arms_fit g.size g.tables.reads arms) lowered.0 in
+  first_on w crosses k m xs [] [] [] mn none lowered all gn = gn
+  first_on w crosses k m xs [] [] (b ∷ bs) mn none lowered all gn = absurd all
+  first_on w crosses k m xs [] (y ∷ ms) bs mn none lowered all gn = stuck_on m xs (first_piece g.table (kit g) (g.tables.named k) m [] bs none)
+  first_on w crosses k m xs (arm ∷ arms) [] bs mn none lowered all gn = stuck_on m xs (first_piece g.table (kit g) (g.tables.named k) m (arm ∷ arms) bs none)
+  first_on w crosses k m xs (arm ∷ arms) (y ∷ ms) [] mn none lowered all gn = absurd all
+  first_on w crosses k m xs (arm ∷ arms) (y ∷ ms) (b ∷ bs) mn none lowered all gn =
+      let both = and_parts (arm_fits g.size crosses g.tables.reads arm) (arms_fit g.size crosses g.tables.reads arms) lowered.0 in
       let j : ℕ = length arms in
       let first : Run Item Item = arm_taken (reading g) w (Gives.Arm k j) arm y xs in
       let p : Piece = arm_piece g.table (kit g) (g.tables.named k j) m arm b in
       let rest : Run Item Item = first_of (reading g) w k arms ms mn xs in
       let q : Piece = first_piece g.table (kit g) (g.tables.named k) m arms bs none in
       else_on m xs ((reading g).inside first) (inside_piece (kit g) p) rest q (λ now t. t.opened ≡ now.opened)
-      (inside_on g m xs first p (arm_on w k j arm m xs y b (both.0, lowered.1) all.0)) (λ now K H N. open_resets now.opened g.ending (first now) K H N)
-      (on_follows m xs rest q (first_on w k m xs arms ms bs mn none (both.1, lowered.1) all.1 gn))
+      (inside_on g m xs first p (arm_on w crosses k j arm m xs y b (both.0, lowered.1, lowered.2) all.0))
+      (λ now K H N. open_resets now.opened g.ending (first now) K H N)
+      (on_follows m xs rest q (first_on w crosses k m xs arms ms bs mn none (both.1, lowered.1, lowered.2) all.1 gn))
 
   -- ---- a value stays in hand while arms look at it
 
@@ -680,21 +542,22 @@ module _ (g : AtWork) where
         (λ v t z. z) (λ t z. z));
   }
 
-  pub match_good : (w : World Item) (k : ℕ) (ma : Run Item Item) (a : Piece) (arms : List Arm) (ms : List (Run Item Item)) (bs : List Piece) (cause : Cause)
-      → Fit w (arms_fit g.size g.tables.reads arms) → Good g ma a → EndsRight a.ends ma → has_ends a.ends ≡ true → GoodAll g ms bs
+  pub match_good : (w : World Item) (crosses : ℕ → Bool) (k : ℕ) (ma : Run Item Item) (a : Piece) (arms : List Arm) (ms : List (Run Item Item))
+      (bs : List Piece) (cause : Cause) → Fit w crosses (arms_fit g.size crosses g.tables.reads arms) → Good g ma a → EndsRight a.ends ma
+      → has_ends a.ends ≡ true → GoodAll g ms bs
       → Good g (ma then λ x. first_of (reading g) w k arms ms (stops cause) (x ∷ []))
       (match_piece g.table (kit g) (g.tables.named k) a arms bs cause)
-  match_good w k ma a arms ms bs cause lowered ga right said all =
+  match_good w crosses k ma a arms ms bs cause lowered ga right said all =
       let m : Matched = in_hand a.ends in
       let none : Piece = stop_here g.table (kit g) cause in
       on_good ma a (λ x. first_of (reading g) w k arms ms (stops cause) (x ∷ [])) (first_piece g.table (kit g) (g.tables.named k) m arms bs none) ga right said
-      (λ x. first_on w k m (x ∷ []) arms ms bs (stops cause) none lowered all (stop_on m (x ∷ []) cause))
+      (λ x. first_on w crosses k m (x ∷ []) arms ms bs (stops cause) none lowered all (stop_on m (x ∷ []) cause))
 
-  pub let_good : (w : World Item) (k j : ℕ) (place : TextPlace) (ma : Run Item Item) (a : Piece) (arm : Arm) (mb : Run Item Item) (b : Piece)
-      → Fit w (arm_fits g.size g.tables.reads arm) → Good g ma a → EndsRight a.ends ma → has_ends a.ends ≡ true → Good g mb b
+  pub let_good : (w : World Item) (crosses : ℕ → Bool) (k j : ℕ) (place : TextPlace) (ma : Run Item Item) (a : Piece) (arm : Arm) (mb : Run Item Item)
+      (b : Piece) → Fit w crosses (arm_fits g.size crosses g.tables.reads arm) → Good g ma a → EndsRight a.ends ma → has_ends a.ends ≡ true → Good g mb b
       → Good g (ma then λ x. let_in (reading g) w (Gives.Arm k j) place arm x mb)
       (let_piece g.table (kit g) (g.tables.named k j) a arm b (MatchFailure place))
-  let_good w k j place ma a arm mb b lowered ga right said gb =
+  let_good w crosses k j place ma a arm mb b lowered ga right said gb =
       let m : Matched = in_hand a.ends in
       let none : Piece = stop_here g.table (kit g) (MatchFailure place) in
       let p : Piece = arm_piece g.table (kit g) (g.tables.named k j) m arm b in
@@ -702,7 +565,7 @@ module _ (g : AtWork) where
       (λ x.
       let first : Run Item Item = arm_taken (reading g) w (Gives.Arm k j) arm mb (x ∷ []) in
       let good =
-      else_on m (x ∷ []) first p (stops (MatchFailure place)) none (λ now t. Unit {0}) (arm_on w k j arm m (x ∷ []) mb b lowered gb)
+      else_on m (x ∷ []) first p (stops (MatchFailure place)) none (λ now t. Unit {0}) (arm_on w crosses k j arm m (x ∷ []) mb b lowered gb)
       (λ now K H N z. onward g.ending (first now) K H N K H (λ t. N t × Unit {0}) z (λ y t k. k) (λ v t k. k) (λ t k. (k, tt)))
       (stop_follows m (x ∷ []) (MatchFailure place)) in
       record { run = good.run })
@@ -717,18 +580,18 @@ module _ (g : AtWork) where
   given_holding sl i [] p h = tt
   given_holding sl i (x ∷ xs) p h = (refl, p.0, h.0, given_holding sl (i + 1) xs p.1 h.1)
 
-  pub clauses_good : (w : World Item) (k : ℕ) (given : List Sized) (arms : List Arm) (ms : List (Run Item Item)) (bs : List Piece)
-      → w.arguments ≡ g.arguments → given ≡ typs g.arguments → AllHad g.table g.tables.known g.arguments → Fit w (arms_fit g.size g.tables.reads arms)
-      → GoodAll g ms bs
+  pub clauses_good : (w : World Item) (crosses : ℕ → Bool) (k : ℕ) (given : List Sized) (arms : List Arm) (ms : List (Run Item Item)) (bs : List Piece)
+      → w.arguments ≡ g.arguments → given ≡ typs g.arguments → AllHad g.table g.tables.known g.arguments
+      → Fit w crosses (arms_fit g.size crosses g.tables.reads arms) → GoodAll g ms bs
       → Good g (first_of (reading g) w k arms ms falls w.arguments) (clauses_piece g.table (kit g) (g.tables.named k) given arms bs)
-  clauses_good w k given arms ms bs args types had lowered all = record {
+  clauses_good w crosses k given arms ms bs args types had lowered all = record {
     run = λ tail s l pc pe ph pf sl now tk end at_ set same wr th.
         let m : Matched = arguments given in
         let hs : List Held = given_held 0 given in
         let holding : Holding g sl hs g.arguments =
         subst (λ ts. Holding g sl (given_held 0 ts) g.arguments) (sym types) (given_holding sl 0 g.arguments same.passed had) in
         let on : GoodOn g m w.arguments (first_of (reading g) w k arms ms falls w.arguments) (clauses_piece g.table (kit g) (g.tables.named k) given arms bs) =
-        first_on w k m w.arguments arms ms bs falls (fall_piece g.table (kit g)) lowered all (fall_on m w.arguments) in
+        first_on w crosses k m w.arguments arms ms bs falls (fall_piece g.table (kit g)) lowered all (fall_on m w.arguments) in
         on.run tail s l pc pe ph pf sl now tk end at_ set same wr
         (record {
           choice = record { picked = []; values = hs };

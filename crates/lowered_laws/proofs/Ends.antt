@@ -19,17 +19,20 @@ use Rattle.call_arguments.specs.Placing.{variable_in}
 use Rattle.size_values.specs.declared.constants.Picked.{Picked}
 use Rattle.size_values.specs.declared.sized.Sized.{Sized}
 use Rattle.checked_meaning.specs.Checked.{Noted, noting}
+use Rattle.checked_meaning.specs.Fits.{has_sizes}
 use Rattle.checked_meaning.specs.Items.{Item, item, typs}
 use Rattle.sized_nodes.specs.declared.trees.Case.{Case}
 use Rattle.sized_meanings.specs.Noting.{Noting, each_noted, form_noted, noted_by, noted_by_each, noted_for, reading_noted, value_noted}
 use Rattle.sized_meanings.specs.Present.{is_noted, is_present, is_same, present, present_case}
-use Rattle.lowered_pieces.specs.Forms.{End, all_notes, cases_apart, cases_ends, ends_of, form_notes, has_ends, is_in, joined, notes_of, one_end, one_or_none}
-use Rattle.lowered_pieces.specs.Forms.{Piece, picked_apart}
+use Rattle.lowered_pieces.specs.Forms.{End, cases_ends, ends_of, first_end, form_notes, has_ends, is_in, joined, notes_of, one_end, one_or_none, picked_apart}
+use Rattle.lowered_pieces.specs.Forms.{Piece}
+use Rattle.lowered_pieces.specs.Keeping.{all_kept, give_one}
 use Rattle.lowered_pieces.specs.Gathered.{all_one, is_one, only_end}
 use Rattle.jib.specs.Jib.{Outcome}
 use Rattle.lowered_laws.proofs.Chosen.{some_is}
 use Rattle.lowered_laws.specs.Simulation.{Followed, AtWork, reading}
 use Rattle.lowered_laws.proofs.Follows.{no}
+use Rattle.lowered_laws.proofs.Keeping.{end_of, kept_behind, one_given, present_now}
 
 -- ---- what a value doesn't give stays as it was noted
 
@@ -129,13 +132,7 @@ pub note_apart : (i : Indices) (v : Value) (noted : Noted) (x : ℕ) → is_in x
 unfolding Still
 note_apart i v noted x h = all_still i v noted x h
 
-pub notes_apart : (is : List Indices) (v : Value) (noted : Noted) (x : ℕ) → is_in x (all_notes is) ≡ false → noted_by_each is v noted x ≡ noted x
-unfolding Still
-notes_apart [] v noted x h = refl
-notes_apart (i ∷ is) v noted x h =
-    notes_apart is v (noted_by i v noted) x (in_back x (notes_of i) (all_notes is) h) ∙ all_still i v noted x (in_front x (notes_of i) (all_notes is) h)
-
--- ---- so the case that was present is present still
+-- ---- so what a case asks for is noted still, if it asks for no such number
 
 not_in : (b : Bool) → not b ≡ true → b ≡ false
 not_in true h = no h
@@ -152,9 +149,6 @@ noted_still xs noted more same (p ∷ ps) h =
       λ j. is_same (here_ j) p.number && rest.1 j,
     )
 
-abbrev pub end_of : Case → End
-end_of c = record { picked = c.picked; typ = c.gives }
-
 -- of one case alone, it
 pub one_present : (noted : Noted) (c a : Case) → present_case noted (c ∷ []) ≡ Some a → c ≡ a
 one_present noted c a e = by (is_noted noted c.picked) (is_present noted c.picked) e
@@ -166,23 +160,6 @@ one_present noted c a e = by (is_noted noted c.picked) (is_present noted c.picke
 
 some_end : (x y : End) → Some x ≡ Some y → x ≡ y
 some_end x y e = cc
-
-pub present_still : (xs : List ℕ) (noted more : Noted) → ((x : ℕ) → is_in x xs ≡ false → more x ≡ noted x) → (cs : List Case) → cases_apart xs cs ≡ true
-    → (c : Case) → present_case noted cs ≡ Some c → present (λ e. e.picked) more (cases_ends cs) ≡ Some (end_of c)
-present_still xs noted more same [] h c e = cc
-present_still xs noted more same (d ∷ cs) h c e =
-    let both = and_parts (picked_apart xs d.picked) (cases_apart xs cs) h in
-    let still = noted_still xs noted more same d.picked both.0 in
-    ap (λ a. if a then (if is_present more d.picked then Some (end_of d) else present (λ (y : End). y.picked) more (cases_ends cs)) else None) still.0
-    ∙ ap (λ b. if is_noted noted d.picked then (if b then Some (end_of d) else present (λ (y : End). y.picked) more (cases_ends cs)) else None) still.1
-    ∙ by (is_noted noted d.picked) (is_present noted d.picked) (λ f. present_still xs noted more same cs both.1 c f) e
-  where
-    by : (a b : Bool) → (present_case noted cs ≡ Some c → present (λ (y : End). y.picked) more (cases_ends cs) ≡ Some (end_of c))
-        → (if a then (if b then Some d else present_case noted cs) else None) ≡ Some c
-        → (if a then (if b then Some (end_of d) else present (λ (y : End). y.picked) more (cases_ends cs)) else None) ≡ Some (end_of c)
-    by true true rest f = ap (λ z. Some (end_of z)) (some_is d c f)
-    by true false rest f = rest f
-    by false b rest f = cc
 
 -- ---- runs whose values are so
 
@@ -256,13 +233,16 @@ one_typ e x opened h = by (is_noted opened e.picked) (is_present opened e.picked
 -- so it is of the case that is present now
 pub now_typed : (said : List Indices) (cs : List Case) (x : Item) (opened : Noted) (c : Case) → has_ends (ends_of said cs) ≡ true
     → EndsIn (ends_of said cs) x opened → present_case opened cs ≡ Some c → c.gives ≡ x.typ
-now_typed said cs x opened c h e there = by (cases_apart (all_notes said) cs) refl h e.it e.there e.typ
+now_typed said cs x opened c h e there = by (give_one cs) (all_kept said cs) refl h e.it e.there e.typ
   where
-    by : (b : Bool) → cases_apart (all_notes said) cs ≡ b → has_ends (if b then cases_ends cs else []) ≡ true → (it : End)
-        → present (λ (y : End). y.picked) opened (if b then cases_ends cs else []) ≡ Some it → it.typ ≡ x.typ → c.gives ≡ x.typ
-    by true a h it f q =
-        ap (λ (y : End). y.typ) (some_end (end_of c) it (sym (present_still (all_notes said) opened opened (λ y z. refl) cs a c there) ∙ f)) ∙ q
-    by false a h it f q = no h
+    by : (a b : Bool) → give_one cs ≡ a → has_ends (if a then first_end cs else if b then cases_ends cs else []) ≡ true → (it : End)
+        → present (λ (y : End). y.picked) opened (if a then first_end cs else if b then cases_ends cs else []) ≡ Some it → it.typ ≡ x.typ → c.gives ≡ x.typ
+    by true b a h it f q =
+        ap (λ (y : End). y.typ)
+        (some_end (record { picked = []; typ = c.gives }) it
+        (sym (ap (present (λ (y : End). y.picked) opened) (one_given opened cs a c there)) ∙ f)) ∙ q
+    by false true a h it f q = ap (λ (y : End). y.typ) (some_end (end_of c) it (sym (present_now opened cs c there) ∙ f)) ∙ q
+    by false false a h it f q = no h
 
 -- one behind the other
 pub then_right : {A : Type 0} (es : List End) (m : Run Item A) (f : A → Run Item Item) → ((a : A) → EndsRight es (f a)) → EndsRight es (m then f)
@@ -341,8 +321,8 @@ module _ (g : AtWork) where
 
     -- of each value that is made, what comes of the case that was present
     made_by : (P : Item → Now Item → Type 0) → (now : Now Item)
-        → ((s : Sized) (more : Noted) (c : Case) → present_case now.opened cases_ ≡ Some c → c.gives ≡ s → more ≡ noted_by_each said v now.opened
-        → P (item s v) (record now { opened = more }))
+        → ((s : Sized) (more : Noted) (c : Case) → present_case now.opened cases_ ≡ Some c → has_sizes g.table v c.gives ≡ true → c.gives ≡ s
+        → more ≡ noted_by_each said v now.opened → P (item s v) (record now { opened = more }))
         → Gives_ (made (reading g) k xs v now) P
     made_by P now by = at_case (g.cases.makes k (typs xs) v now.opened) refl
       where
@@ -353,7 +333,7 @@ module _ (g : AtWork) where
             let c = g.tells.makes k (typs xs) v now.opened s e in
             let count : length (typs xs) ≡ n = length-map xs (λ (x : Item). x.typ) ∙ many in
             let there : present_case now.opened cases_ ≡ Some c.it = subst (λ m. present_case now.opened (g.tables.cases k m) ≡ Some c.it) count c.is_there in
-            by s more c.it there c.is_given (g.tells.notes k v now.opened more q)
+            by s more c.it there c.is_had c.is_given (g.tells.notes k v now.opened more q)
 
         at_case : (o : Option Sized) → g.cases.makes k (typs xs) v now.opened ≡ o
             → Gives_ (goes_on (goes_on (needs o now) (λ s. gives (item s v)))
@@ -364,17 +344,20 @@ module _ (g : AtWork) where
     pub made_valued : has_ends (ends_of said cases_) ≡ true → (now : Now Item)
         → Gives_ (made (reading g) k xs v now) (λ x t. (x.val ≡ v) × EndsIn (ends_of said cases_) x t.opened)
     made_valued h now = made_by (λ x t. (x.val ≡ v) × EndsIn (ends_of said cases_) x t.opened) now
-        (λ s more c there given noted. (refl, by (cases_apart (all_notes said) cases_) refl h s more c there given noted))
+        (λ s more c there had given noted. (refl, by (give_one cases_) (all_kept said cases_) refl refl h s more c there had given noted))
       where
-        by : (b : Bool) → cases_apart (all_notes said) cases_ ≡ b → has_ends (if b then cases_ends cases_ else []) ≡ true → (s : Sized) (more : Noted)
-            (c : Case) → present_case now.opened cases_ ≡ Some c → c.gives ≡ s → more ≡ noted_by_each said v now.opened
-            → EndsIn (if b then cases_ends cases_ else []) (item s v) more
-        by true a h s more c there given noted = record {
+        by : (a b : Bool) → give_one cases_ ≡ a → all_kept said cases_ ≡ b
+            → has_ends (if a then first_end cases_ else if b then cases_ends cases_ else []) ≡ true → (s : Sized) (more : Noted) (c : Case)
+            → present_case now.opened cases_ ≡ Some c → has_sizes g.table v c.gives ≡ true → c.gives ≡ s → more ≡ noted_by_each said v now.opened
+            → EndsIn (if a then first_end cases_ else if b then cases_ends cases_ else []) (item s v) more
+        by true b a k h s more c there had given noted =
+            subst (λ (es : List End). EndsIn es (item s v) more) (sym (one_given now.opened cases_ a c there)) (fixed_in c.gives (item s v) more given)
+        by false true a k h s more c there had given noted = record {
           it = end_of c;
-          there = present_still (all_notes said) now.opened more (λ x f. ap (λ (o : Noted). o x) noted ∙ notes_apart said v now.opened x f) cases_ a c there;
+          there = kept_behind g.table said cases_ k v now.opened more c there had noted;
           typ = given;
         }
-        by false a h s more c there given noted = no h
+        by false false a k h s more c there had given noted = no h
 
     pub made_right : EndsRight (ends_of said cases_) (made (reading g) k xs v)
     made_right h now =
@@ -383,7 +366,7 @@ module _ (g : AtWork) where
 
     -- of the only case
     pub made_one : (c : Case) → cases_ ≡ c ∷ [] → EndsRight (one_end c.gives) (made (reading g) k xs v)
-    made_one c one h now = made_by (λ x t. EndsIn (one_end c.gives) x t.opened) now (λ s more d there given noted.
+    made_one c one h now = made_by (λ x t. EndsIn (one_end c.gives) x t.opened) now (λ s more d there had given noted.
         fixed_in c.gives (item s v) more
         (ap (λ (y : Case). y.gives) (one_present now.opened c d (subst (λ ds. present_case now.opened ds ≡ Some d) one there)) ∙ given))
 

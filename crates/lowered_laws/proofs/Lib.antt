@@ -9,6 +9,7 @@ pub mod Inside
 pub mod Had
 pub mod Noted
 pub mod Ended
+pub mod Keeping
 pub mod Ends
 pub mod Branches
 pub mod Truths
@@ -27,6 +28,7 @@ pub mod Cuts
 pub mod Lists
 pub mod Opening
 pub mod Alike
+pub mod ArmSteps
 pub mod Arms
 pub mod Tries
 pub mod ClauseEnds

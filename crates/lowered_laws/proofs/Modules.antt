@@ -1,5 +1,6 @@
 -- Calls do what functions mean, however many are inside one another.
-use Rattle.std.proofs.Common.{◌≡◌, ◌∙◌, ℕ, zero, suc, ◌+◌, ◌<◌, pos, Bool, true, false, List, [], ◌∷◌, length, Option, Some, None, refl, sym, ap, subst, arith}
+use Rattle.std.proofs.Common.{◌≡◌, ◌∙◌, ℕ, zero, suc, ◌+◌, ◌<◌, ◌≤◌, pos, Bool, true, false, List, [], ◌∷◌, length, Option, Some, None, refl, sym, ap, subst}
+use Rattle.std.proofs.Common.{arith}
 use Rattle.std.specs.Prelude.{nat_lt, option_map, slice_get, unwrap_or, if◌then◌else◌}
 use Rattle.sail_base.specs.declared.place.Place.{Place as TextPlace}
 use Rattle.sail_types.specs.declared.values.Value.{Value}
@@ -7,11 +8,11 @@ use Rattle.sail_types.specs.declared.values.Value.TheVariants as V
 use Rattle.size_values.specs.declared.sized.Sized.{Sized}
 use Rattle.model_state.specs.declared.cause.Cause.TheVariants.{MatchFailure, Measure}
 use Rattle.jib.specs.declared.code.Instruction.{Instruction}
-use Rattle.jib.specs.declared.code.Instruction.TheVariants as I
 use Rattle.jib.specs.Jib.{Here, Slots, Outcome, Runs, act, code_of, entry, or_stop, runs_over}
 use Rattle.jib.specs.Jib as J
 use Rattle.sail_core.specs.declared.tree.Core.{Core}
 use Rattle.sail_core.specs.declared.tree.Giver.TheVariants as Gives
+use Rattle.sail_core.specs.declared.model.Direction.{Direction}
 use Rattle.sail_core.specs.declared.model.Function.{Function}
 use Rattle.sail_core.specs.Run as R
 use Rattle.sail_core.specs.Run.{Ended, Now, Run, apart, gives, goes_on, if_so, leaving, needs, or_so, returned, stops, stuck, tick, ◌then◌}
@@ -20,22 +21,22 @@ use Rattle.sail_types.specs.declared.table.Types.{Types as Table}
 use Rattle.sail_core.specs.Values.{integer_in, natural_of}
 use Rattle.sail_core.specs.Making.{Making, World, integer, made, natural}
 use Rattle.sail_core.specs.Meaning.{meaning, option_typ, optional}
-use Rattle.sail_core.specs.Program.{Measures, answered, below, calls, crossed, direction_at, entered, event_of, framed, gone, measured, nearest, world_of}
+use Rattle.sail_core.specs.Program.{Measures, answered, as_given, asking, below, calls, crossed, direction_at, entered, event_of, framed, gone, measured}
+use Rattle.sail_core.specs.Program.{nearest, ways, world_of}
 use Rattle.checked_meaning.specs.Checked.{Cases, Noted, checked, noting}
 use Rattle.checked_meaning.specs.Fits.{has_sizes}
 use Rattle.checked_meaning.specs.Items.{Item, fixed_typ, item, typs, vals}
 use Rattle.lowered_pieces.specs.Places.{Given}
 use Rattle.lowered_laws.specs.Standing.{HasAt}
 use Rattle.lowered_laws.proofs.Pieces.{has_whole}
-use Rattle.lowered_laws.proofs.Steps.{go}
 use Rattle.lowered_pieces.specs.Forms.{Callees, Piece}
-use Rattle.lowered_pieces.specs.Mapped.{optional_piece}
-use Rattle.lowered_laws.specs.Modules.{Made, Lowered, Leads, Active, crossing, further, sunk, Agrees, AllLowered, AllTick, AllTurned, Shape}
+use Rattle.lowered_laws.specs.Modules.{Made, Lowered, Leads, Active, crossing, further, sunk, Agrees, AllLowered, AllTaken, AllTick, AllTurned, Shape}
 use Rattle.lowered_laws.specs.Returning.{Stays}
 use Rattle.lowered_laws.specs.Modules.{EventsLowered, EventsAnswer, Turned}
 use Rattle.lowered_laws.specs.Modules.{CallsAnswer, alone, event_shape, kit_for, around_for, lowered_for, piece_for, result_for}
-use Rattle.lowered_pieces.specs.Functions.{all_in, called_code, direction_code, measure_of}
-use Rattle.lowered_laws.specs.Simulation.{bare, Followed, AtWork, Passed, Good, AnswersFrom, Around, CallsOk, LeadsTo}
+use Rattle.lowered_pieces.specs.Functions.{all_in, called_code, measure_of}
+use Rattle.lowered_laws.specs.Simulation.{bare, Followed, AtWork, Passed, Good, AnswersFrom, AskedFrom, Around, CallsOk, IsOf, LeadsTo}
+use Rattle.lowered_laws.proofs.Facts.{not_both}
 use Rattle.lowered_laws.proofs.Nodes.{node_good, node_right}
 use Rattle.lowered_laws.proofs.Turned.{option_good}
 use Rattle.lowered_laws.proofs.ClauseEnds.{TypedBy, ended_typed}
@@ -143,7 +144,7 @@ module _ (types : Table) (cases : Cases) where
 
 -- ---- calls
 
-module _ (x : Made) (agrees : Agrees x) (all : AllLowered x) (turned : AllTurned x) (begins : AllTick x) where
+module _ (x : Made) (agrees : Agrees x) (all : AllLowered x) (turned : AllTurned x) (takes : AllTaken x) (begins : AllTick x) where
   -- what a function comes to, by whatever its frame does
   answers_framed : (h : Here) (q : ℕ) (vs : List Value) (now : Now Item) (left : ℕ) (B : Run Item Value) → ((t : Now Item) → Decided (B t))
       → ((r : Outcome) → Followed r (framed B (record now { ticks = left })) (λ v t. r ≡ J.Gives v (bare t)) (λ v t. r ≡ J.Throws v (bare t)) (λ t. ⊥)
@@ -179,14 +180,283 @@ module _ (x : Made) (agrees : Agrees x) (all : AllLowered x) (turned : AllTurned
 
   abbrev CrossesGood : ℕ → Type 0
   CrossesGood n = (active : Measures) (h : Here) (p : ℕ) → Active x active h p → (place : TextPlace) (d : ℕ) (v : Value) (now : Now Item)
-      → x.crosses p d ≡ true → has_sizes x.table v (x.direction d).takes ≡ true → now.ticks < n
+      → x.crosses p d ≡ true → has_sizes x.table v (x.direction d).takes ≡ true → suc now.ticks < n
       → AnswersFrom x.m x.lets x.s.hart (J.called x.m h (x.direction d).function place) (x.direction d).function (v ∷ []) now
-      ((tick then λ t. (calls x.s n).enter active d v) now)
+      ((calls x.s n).enter active d v now)
+
+  -- directions that patterns ask, by how many more may be inside one another
+  abbrev SeesGood : ℕ → ℕ → Type 0
+  SeesGood n rank = (active : Measures) (h : Here) (p : ℕ) → Active x active h p → (place : TextPlace) (d : ℕ) (y : Item) (now : Now Item)
+      → x.crosses p d ≡ true → now.ticks < n
+      → AskedFrom x.table (x.tables p).known x.m x.lets x.s.hart (J.called x.m h (x.direction d).function place) (x.direction d) y.val now
+      (ways x.s (calls x.s n) active rank d y now)
 
   -- calls of functions and of directions
   record BothGood (n : ℕ) : Type 0 where
     pub calls_ : CallsGood n
     pub crosses_ : CrossesGood n
+
+  -- ---- directions
+
+  -- one that may ask others, so many of which may be inside one another
+  module _ (n : ℕ) (ih : BothGood n) (rank : ℕ) (sees : SeesGood n rank) (d : ℕ) (v : Value) (l : Turned x d v) (h : Here) (place : TextPlace)
+      (active : Measures) (fol : Active x active (J.called x.m h (x.direction d).function place) (x.way d)) (now : Now Item) (few : now.ticks < n) where
+    abbrev qd : ℕ
+    qd = (x.direction d).function
+
+    abbrev pd : ℕ
+    pd = x.way d
+
+    abbrev held : Item
+    held = item (x.direction d).takes v
+
+    abbrev zd : Making Item
+    zd = checked x.table l.cases
+
+    abbrev worldd : World Item
+    worldd = asking x.s (calls x.s n) active (ways x.s (calls x.s n) active rank) [] (held ∷ [])
+
+    abbrev opt : Sized
+    opt = fixed_typ x.table (option_typ l.typ)
+
+    abbrev pay : Sized
+    pay = fixed_typ x.table l.typ
+
+    abbrev turning : Outcome → AtWork
+    turning r = record {
+      m = x.m;
+      lets = x.lets;
+      hart = x.s.hart;
+      here = J.called x.m h qd place;
+      ending = r;
+      name = x.name qd;
+      table = x.table;
+      number = x.number;
+      ways = x.direction;
+      knows = x.knows pd;
+      had = x.had pd;
+      exception = x.exception;
+      size = x.size pd;
+      tables = x.tables pd;
+      cases = l.cases;
+      tells = l.tells;
+      types = l.types;
+      names = l.names;
+      slots = l.slots;
+      arguments = held ∷ [];
+      depth = n;
+    }
+
+    abbrev around_d : Callees
+    around_d = around_for x pd ((x.direction d).takes ∷ [])
+
+    abbrev me_d : Run Item Item
+    me_d = meaning zd worldd l.clauses
+
+    abbrev piece_d : Piece
+    piece_d = piece_for x qd pd ((x.direction d).takes ∷ []) l.clauses
+
+    module _ (had : has_sizes x.table v (x.direction d).takes ≡ true) (r : Outcome) where
+      calls_d : CallsOk (turning r) around_d worldd
+      calls_d = record {
+        tells = λ place2 j a ws t leads less. ih.calls_ active (J.called x.m h qd place) pd fol place2 j a ws t leads less;
+        crosses = λ place2 e w t there had2 less. ih.crosses_ active (J.called x.m h qd place) pd fol place2 e w t there had2 less;
+        sees = λ place2 e y t there less. sees active (J.called x.m h qd place) pd fol place2 e y t there less;
+      }
+
+      around_is : Around (turning r) around_d worldd
+      around_is = record {
+        hart = refl;
+        sized = refl;
+        widths = l.sizes;
+        sizes = l.sizes;
+        truths = l.truths;
+        arguments = refl;
+        given = refl;
+        had = ((had, l.known_taken pd), tt);
+        lets = x.opened;
+      }
+
+      good_d : Good (turning r) me_d piece_d
+      good_d = node_good (turning r) around_d worldd calls_d around_is l.clauses l.lowered
+
+      typed_d : TypedBy pay me_d
+      typed_d =
+          ended_typed (turning r) worldd 0 [] pay piece_d.ends me_d l.ends
+          (node_right (turning r) around_d worldd calls_d around_is l.clauses l.lowered)
+
+      passed_d : Passed (turning r) (entry x.m qd (v ∷ [])) 0 (held ∷ [])
+      passed_d = (ap (entry x.m qd (v ∷ [])) l.place, tt)
+
+      runs_d : Followed r (me_d (begin now nothing_noted)) (λ y t. has_sizes x.table y.val pay ≡ true → r ≡ J.Gives (V.Union 0 0 y.val) (bare t))
+          (λ w t. r ≡ J.Throws w (bare t)) (λ t. r ≡ J.Gives (V.Union 0 1 V.Unit) (bare t))
+          → Runs x.m x.lets x.s.hart (J.called x.m h qd place) 0 (entry x.m qd (v ∷ [])) (bare now) r
+      runs_d th =
+          let sl : Slots = entry x.m qd (v ∷ []) in
+          option_good (turning r) opt pay l.m.place l.somes l.none (l.known_option pd) me_d piece_d good_d typed_d 0 sl (begin now nothing_noted) few
+          (subst (λ c. HasAt (code_of x.m qd) 0 c) l.code (has_whole (code_of x.m qd))) (begins_so (turning r) sl now passed_d) th
+
+    abbrev as_option : Item → Run Item Item
+    as_option y = gives (zd.fixed (option_typ l.typ) (V.Union 0 0 y.val))
+
+    abbrev as_none : Now Item → Run Item Item
+    as_none before after = gives (zd.fixed (option_typ l.typ) (V.Union 0 1 V.Unit)) (zd.back before after)
+
+    abbrev change : Now Item → Now Item
+    change after = record after { locals = now.locals; opened = now.opened }
+
+    -- what it comes to, by how its clauses end
+    abbrev whole_d : Ended Item Item → Now Item → Ended Item Value
+    whole_d o before = leaving change (goes_on (or_so (goes_on o as_option) (as_none before)) (λ y. gives y.val))
+
+    abbrev RunsAs : Ended Item Item → Type 0
+    RunsAs o = (r : Outcome) → Followed r o (λ y t. has_sizes x.table y.val pay ≡ true → r ≡ J.Gives (V.Union 0 0 y.val) (bare t))
+        (λ w t. r ≡ J.Throws w (bare t)) (λ t. r ≡ J.Gives (V.Union 0 1 V.Unit) (bare t))
+        → Runs x.m x.lets x.s.hart (J.called x.m h qd place) 0 (entry x.m qd (v ∷ [])) (bare now) r
+
+    abbrev before_d : Now Item
+    before_d = begin now nothing_noted
+
+    answers_d : (o : Ended Item Item) → Stays o → RunsAs o → (before : Now Item)
+        → AnswersFrom x.m x.lets x.s.hart (J.called x.m h qd place) qd (v ∷ []) now (whole_d o before)
+    answers_d (R.Gives y t) stays run before =
+        let e = run (J.Gives (V.Union 0 0 y.val) (bare t)) (λ had. refl) in (refl, refl, runs_fewer x.m x.lets x.s.hart e, e)
+    answers_d (R.No t) stays run before =
+        let e = run (J.Gives (V.Union 0 1 V.Unit) (bare t)) refl in (refl, refl, runs_fewer x.m x.lets x.s.hart e, e)
+    answers_d (R.Returns w t) stays run before = absurd stays
+    answers_d (R.Throws w t) stays run before =
+        let e = run (J.Throws w (bare t)) refl in (refl, refl, runs_fewer x.m x.lets x.s.hart e, e)
+    answers_d (R.Stops cause t) stays run before = run (J.Stops cause (bare t)) refl
+    answers_d R.Stuck stays run before = tt
+
+    crossed_d : has_sizes x.table v (x.direction d).takes ≡ true → AnswersFrom x.m x.lets x.s.hart (J.called x.m h qd place) qd (v ∷ []) now
+        (apart (optional zd l.typ me_d then λ y. gives y.val) now)
+    crossed_d had = answers_d (me_d before_d) (l.stays n active rank before_d) (λ r th. runs_d had r th) before_d
+
+    -- its clauses give a value of their type: else its run might end in any way, and so with more ticks than it began with
+    gives_typed : (y : Item) (t : Now Item) → RunsAs (R.Gives y t) → has_sizes x.table y.val pay ≡ true
+    gives_typed y t run = by (has_sizes x.table y.val pay) refl
+      where
+        more : Outcome
+        more = J.Gives V.Unit (record (bare now) { ticks = suc now.ticks })
+
+        never : {X : Type 0} (k : ℕ) → suc k ≤ k → X
+        never k le = absurd (impossible k le)
+          where
+            impossible : (k : ℕ) → suc k ≤ k → ⊥
+            impossible k le = omega (arith, le)
+
+        by : (b : Bool) → has_sizes x.table y.val pay ≡ b → has_sizes x.table y.val pay ≡ true
+        by true e = e
+        by false e = never now.ticks (runs_fewer x.m x.lets x.s.hart (run more (λ had. not_both (has_sizes x.table y.val pay) had e)))
+
+    -- and what a pattern gets of it
+    asked_d : (p : ℕ) → has_sizes x.table v (x.direction d).takes ≡ true → (o : Ended Item Item) → Stays o → RunsAs o → (before : Now Item)
+        → AskedFrom x.table (x.tables p).known x.m x.lets x.s.hart (J.called x.m h qd place) (x.direction d) v now
+        (goes_on (whole_d o before) (as_given zd (Some l.m)))
+    asked_d p had o stays run before = by o stays run (answers_d o stays run before)
+      where
+        taken : IsOf x.table (x.tables p).known v (x.direction d).takes
+        taken = (had, l.known_taken p)
+
+        typ_is : fixed_typ x.table l.m.result ≡ opt
+        typ_is = ap (fixed_typ x.table) l.result
+
+        of_option : (u : Value) → has_sizes x.table u opt ≡ true → IsOf x.table (x.tables p).known u (fixed_typ x.table l.m.result)
+        of_option u e = subst (λ t. IsOf x.table (x.tables p).known u t) (sym typ_is) (e, l.known_option p)
+
+        by : (o : Ended Item Item) → Stays o → RunsAs o
+            → AnswersFrom x.m x.lets x.s.hart (J.called x.m h qd place) qd (v ∷ []) now (whole_d o before)
+            → AskedFrom x.table (x.tables p).known x.m x.lets x.s.hart (J.called x.m h qd place) (x.direction d) v now
+            (goes_on (whole_d o before) (as_given zd (Some l.m)))
+        by (R.Gives y t) stays run told =
+            (taken, typ_is ∙ l.gives, of_option (V.Union 0 0 y.val) (l.somes y.val (gives_typed y t run)), told)
+        by (R.No t) stays run told = (taken, typ_is ∙ l.gives, of_option (V.Union 0 1 V.Unit) l.none, told)
+        by (R.Returns w t) stays run told = absurd stays
+        by (R.Throws w t) stays run told = (taken, told)
+        by (R.Stops cause t) stays run told = (taken, told)
+        by R.Stuck stays run told = tt
+
+    seen_d : (p : ℕ) → has_sizes x.table v (x.direction d).takes ≡ true
+        → AskedFrom x.table (x.tables p).known x.m x.lets x.s.hart (J.called x.m h qd place) (x.direction d) v now
+        ((apart (optional zd l.typ me_d then λ y. gives y.val) then as_given zd (Some l.m)) now)
+    seen_d p had = asked_d p had (me_d before_d) (l.stays n active rank before_d) (λ r th. runs_d had r th) before_d
+
+  -- what entering a direction means
+  module _ (d : ℕ) (v : Value) (l : Turned x d v) (world : List Item → World Item) where
+    abbrev y_entered : Item
+    y_entered = item (x.direction d).takes v
+
+    abbrev z_entered : Making Item
+    z_entered = checked x.table l.cases
+
+    gone_is : gone x.s world d v (direction_at x.s d)
+        ≡ apart (optional z_entered l.typ (meaning z_entered (world (y_entered ∷ [])) l.clauses) then λ u. gives u.val)
+    gone_is =
+        ap (gone x.s world d v) l.found ∙ ap (λ o. needs o then λ u. crossed (x.s.sizing.direction d) (world (u ∷ [])) l.m) l.enters
+        ∙ ap (λ r. crossed r (world (y_entered ∷ [])) l.m) l.reads
+        ∙ ap (λ (b : Run Item Item). apart (b then λ u. gives u.val)) (l.means (world (y_entered ∷ [])))
+
+  -- ---- directions that patterns ask
+
+  sees_step : (n : ℕ) → BothGood n → (rank : ℕ) → SeesGood n rank → SeesGood n (suc rank)
+  sees_step n ih rank sees active h p fol place d y now there few = by_direction (direction_at x.s d) refl
+    where
+      q : ℕ
+      q = (x.direction d).function
+
+      world : List Item → World Item
+      world xs = asking x.s (calls x.s n) active (ways x.s (calls x.s n) active rank) [] xs
+
+      z : Making Item
+      z = x.s.sizing.direction d
+
+      v : Value
+      v = z.val y
+
+      IsAsked : Value → Ended Item Item → Type 0
+      IsAsked u o = AskedFrom x.table (x.tables p).known x.m x.lets x.s.hart (J.called x.m h q place) (x.direction d) u now o
+
+      entered_so : (l : Turned x d v) → has_sizes x.table v (x.direction d).takes ≡ true
+          → IsAsked y.val ((gone x.s world d v (direction_at x.s d) then as_given z (direction_at x.s d)) now)
+      entered_so l had =
+          subst (λ u. IsAsked u ((gone x.s world d v (direction_at x.s d) then as_given z (direction_at x.s d)) now))
+          (ap (λ (r : Making Item). r.val y) l.reads)
+          (subst (λ (b : Run Item Item). IsAsked v (b now))
+          (λ j. sym (gone_is d v l world) j then as_given (sym l.reads j) (sym l.found j))
+          (seen_d n ih rank sees d v l h place active (crossing fol there) now few p had))
+
+      by_taken : (o : Option Item) → x.s.sizing.takes d v ≡ o
+          → IsAsked y.val ((gone x.s world d v (direction_at x.s d) then as_given z (direction_at x.s d)) now)
+      by_taken (Some u) e = let had = takes p d v u there e in entered_so (turned p d v there had) had
+      by_taken None e = stuck_so (direction_at x.s d)
+        where
+          stuck_so : (o : Option Direction) → IsAsked y.val ((gone x.s world d v o then as_given z o) now)
+          stuck_so None = tt
+          stuck_so (Some m) =
+              subst (λ t. IsAsked y.val (goes_on (goes_on (needs t now) (λ u. crossed z (world (u ∷ [])) m)) (as_given z (Some m)))) (sym e) tt
+
+      by_direction : (o : Option Direction) → direction_at x.s d ≡ o
+          → IsAsked y.val ((gone x.s world d v (direction_at x.s d) then as_given z (direction_at x.s d)) now)
+      by_direction o e = by_taken (x.s.sizing.takes d v) refl
+
+  sees_good : (n : ℕ) → BothGood n → (rank : ℕ) → SeesGood n rank
+  sees_good n ih zero active h p fol place d y now there few = tt
+  sees_good n ih (suc rank) active h p fol place d y now there few =
+      sees_step n ih rank (sees_good n ih rank) active h p fol place d y now there few
+
+  -- ---- and those that calls enter
+
+  crosses_step : (n : ℕ) → BothGood n → CrossesGood (suc n)
+  crosses_step n ih active h p fol place d v now there had lt =
+      let l : Turned x d v = turned p d v there had in
+      let rank : ℕ = length x.s.directions in
+      let q : ℕ = (x.direction d).function in
+      subst (λ (b : Run Item Value). AnswersFrom x.m x.lets x.s.hart (J.called x.m h q place) q (v ∷ []) now (b now))
+      (sym (gone_is d v l (world_of x.s (calls x.s n) active [])))
+      (crossed_d n ih rank (sees_good n ih rank) d v l h place active (crossing fol there) now (omega (arith, lt)) had)
+
+  -- ---- functions
 
   module _ (n : ℕ) (ih : BothGood n) (q : ℕ) (shape : Shape x) (p i : ℕ) (f : Function) (nu : Givens) (vs : List Value) (xs : List Item)
       (l : Lowered x q shape i p f nu vs xs) where
@@ -210,6 +480,7 @@ module _ (x : Made) (agrees : Agrees x) (all : AllLowered x) (turned : AllTurned
       name = x.name q;
       table = x.table;
       number = x.number;
+      ways = x.direction;
       knows = x.knows p;
       had = x.had p;
       exception = x.exception;
@@ -231,6 +502,7 @@ module _ (x : Made) (agrees : Agrees x) (all : AllLowered x) (turned : AllTurned
         (record {
           tells = λ place j a ws t leads less. ih.calls_ active (record h { function = q }) p fol place j a ws t leads less;
           crosses = λ place d v t there had less. ih.crosses_ active (record h { function = q }) p fol place d v t there had less;
+          sees = λ place d y t there less. sees_good n ih (length x.s.directions) active (record h { function = q }) p fol place d y t there less;
         })
         (record {
           hart = refl;
@@ -427,180 +699,10 @@ module _ (x : Made) (agrees : Agrees x) (all : AllLowered x) (turned : AllTurned
       at_function None e = tt
       at_function (Some f) e = at_ticks f e now.ticks refl
 
-  -- ---- directions
-
-  module _ (n : ℕ) (ih : BothGood n) (d p : ℕ) (v : Value) (l : Turned x d v) (h : Here) (place : TextPlace) (active : Measures)
-      (fol : Active x active (J.called x.m h (x.direction d).function place) (x.way d)) (now : Now Item) (left : ℕ) (ticks : now.ticks ≡ suc left)
-      (few : now.ticks < suc n) where
-    abbrev qd : ℕ
-    qd = (x.direction d).function
-
-    abbrev pd : ℕ
-    pd = x.way d
-
-    abbrev held : Item
-    held = item (x.direction d).takes v
-
-    abbrev zd : Making Item
-    zd = checked x.table l.cases
-
-    abbrev worldd : World Item
-    worldd = world_of x.s (calls x.s n) active [] (held ∷ [])
-
-    abbrev opt : Sized
-    opt = fixed_typ x.table (option_typ l.typ)
-
-    abbrev pay : Sized
-    pay = fixed_typ x.table l.typ
-
-    abbrev turning : Outcome → AtWork
-    turning r = record {
-      m = x.m;
-      lets = x.lets;
-      hart = x.s.hart;
-      here = J.called x.m h qd place;
-      ending = r;
-      name = x.name qd;
-      table = x.table;
-      number = x.number;
-      knows = x.knows pd;
-      had = x.had pd;
-      exception = x.exception;
-      size = x.size pd;
-      tables = x.tables pd;
-      cases = l.cases;
-      tells = l.tells;
-      types = l.types;
-      names = l.names;
-      slots = l.slots;
-      arguments = held ∷ [];
-      depth = n;
-    }
-
-    abbrev around_d : Callees
-    around_d = around_for x pd ((x.direction d).takes ∷ [])
-
-    abbrev me_d : Run Item Item
-    me_d = meaning zd worldd l.clauses
-
-    abbrev piece_d : Piece
-    piece_d = piece_for x qd pd ((x.direction d).takes ∷ []) l.clauses
-
-    module _ (had : has_sizes x.table v (x.direction d).takes ≡ true) (r : Outcome) where
-      calls_d : CallsOk (turning r) around_d worldd
-      calls_d = record {
-        tells = λ place2 j a ws t leads less. ih.calls_ active (J.called x.m h qd place) pd fol place2 j a ws t leads less;
-        crosses = λ place2 e w t there had2 less. ih.crosses_ active (J.called x.m h qd place) pd fol place2 e w t there had2 less;
-      }
-
-      around_is : Around (turning r) around_d worldd
-      around_is = record {
-        hart = refl;
-        sized = refl;
-        widths = l.sizes;
-        sizes = l.sizes;
-        truths = l.truths;
-        arguments = refl;
-        given = refl;
-        had = ((had, l.known_taken), tt);
-        lets = x.opened;
-      }
-
-      good_d : Good (turning r) me_d piece_d
-      good_d = node_good (turning r) around_d worldd calls_d around_is l.clauses l.lowered
-
-      typed_d : TypedBy pay me_d
-      typed_d =
-          ended_typed (turning r) worldd 0 [] pay piece_d.ends me_d l.ends
-          (node_right (turning r) around_d worldd calls_d around_is l.clauses l.lowered)
-
-      passed_d : Passed (turning r) (entry x.m qd (v ∷ [])) 0 (held ∷ [])
-      passed_d = (ap (entry x.m qd (v ∷ [])) l.place, tt)
-
-      runs_d : Followed r (me_d (begin (record now { ticks = left }) nothing_noted)) (λ y t. r ≡ J.Gives (V.Union 0 0 y.val) (bare t))
-          (λ w t. r ≡ J.Throws w (bare t)) (λ t. r ≡ J.Gives (V.Union 0 1 V.Unit) (bare t))
-          → Runs x.m x.lets x.s.hart (J.called x.m h qd place) 0 (entry x.m qd (v ∷ [])) (bare now) r
-      runs_d th =
-          let sl : Slots = entry x.m qd (v ∷ []) in
-          let code : List Instruction = direction_code (kit_for x qd pd) true l.m.place (optional_piece x.table (kit_for x qd pd) opt pay piece_d) in
-          let whole : HasAt (code_of x.m qd) 0 code = subst (λ c. HasAt (code_of x.m qd) 0 c) l.code (has_whole (code_of x.m qd)) in
-          go x.m x.lets x.s.hart (J.called x.m h qd place) r 0 sl sl (bare now) (bare (record now { ticks = left })) I.Tick whole.0
-          (ap (λ k. J.tick k sl (bare now)) ticks)
-          (option_good (turning r) opt pay l.m.place l.somes l.none l.known_option me_d piece_d good_d typed_d 1 sl
-          (begin (record now { ticks = left }) nothing_noted) (omega (arith, ticks, few)) whole.1
-          (begins_so (turning r) sl (record now { ticks = left }) passed_d) th)
-
-    abbrev as_option : Item → Run Item Item
-    as_option y = gives (zd.fixed (option_typ l.typ) (V.Union 0 0 y.val))
-
-    abbrev as_none : Now Item → Run Item Item
-    as_none before after = gives (zd.fixed (option_typ l.typ) (V.Union 0 1 V.Unit)) (zd.back before after)
-
-    abbrev change : Now Item → Now Item
-    change after = record after { locals = now.locals; opened = now.opened }
-
-    answers_d : (had : has_sizes x.table v (x.direction d).takes ≡ true) (o : Ended Item Item) → Stays o
-        → ((r : Outcome) → Followed r o (λ y t. r ≡ J.Gives (V.Union 0 0 y.val) (bare t)) (λ w t. r ≡ J.Throws w (bare t))
-        (λ t. r ≡ J.Gives (V.Union 0 1 V.Unit) (bare t))
-        → Runs x.m x.lets x.s.hart (J.called x.m h qd place) 0 (entry x.m qd (v ∷ [])) (bare now) r)
-        → (before : Now Item)
-        → AnswersFrom x.m x.lets x.s.hart (J.called x.m h qd place) qd (v ∷ []) now
-        (leaving change (goes_on (or_so (goes_on o as_option) (as_none before)) (λ y. gives y.val)))
-    answers_d had (R.Gives y t) stays run before =
-        let e = run (J.Gives (V.Union 0 0 y.val) (bare t)) refl in (refl, refl, runs_fewer x.m x.lets x.s.hart e, e)
-    answers_d had (R.No t) stays run before =
-        let e = run (J.Gives (V.Union 0 1 V.Unit) (bare t)) refl in (refl, refl, runs_fewer x.m x.lets x.s.hart e, e)
-    answers_d had (R.Returns w t) stays run before = absurd stays
-    answers_d had (R.Throws w t) stays run before =
-        let e = run (J.Throws w (bare t)) refl in (refl, refl, runs_fewer x.m x.lets x.s.hart e, e)
-    answers_d had (R.Stops cause t) stays run before = run (J.Stops cause (bare t)) refl
-    answers_d had R.Stuck stays run before = tt
-
-    crossed_d : has_sizes x.table v (x.direction d).takes ≡ true → AnswersFrom x.m x.lets x.s.hart (J.called x.m h qd place) qd (v ∷ []) now
-        (apart (optional zd l.typ me_d then λ y. gives y.val) (record now { ticks = left }))
-    crossed_d had =
-        answers_d had (me_d (begin (record now { ticks = left }) nothing_noted)) (l.stays n active (begin (record now { ticks = left }) nothing_noted))
-        (λ r th. runs_d had r th) (begin (record now { ticks = left }) nothing_noted)
-
-  crosses_step : (n : ℕ) → BothGood n → CrossesGood (suc n)
-  crosses_step n ih active h p fol place d v now there had lt = at_ticks now.ticks refl
-    where
-      l : Turned x d v
-      l = turned p d v there had
-
-      q : ℕ
-      q = (x.direction d).function
-
-      y : Item
-      y = item (x.direction d).takes v
-
-      world : List Item → World Item
-      world xs = world_of x.s (calls x.s n) active [] xs
-
-      z : Making Item
-      z = checked x.table l.cases
-
-      same : gone x.s world d v (direction_at x.s d) ≡ apart (optional z l.typ (meaning z (world (y ∷ [])) l.clauses) then λ u. gives u.val)
-      same =
-          ap (gone x.s world d v) l.found ∙ ap (λ o. needs o then λ u. crossed (x.s.sizing.direction d) (world (u ∷ [])) l.m) l.enters
-          ∙ ap (λ r. crossed r (world (y ∷ [])) l.m) l.reads ∙ ap (λ (b : Run Item Item). apart (b then λ u. gives u.val)) (l.means (world (y ∷ [])))
-
-      ticks_first : slice_get (code_of x.m q) 0 ≡ Some I.Tick
-      ticks_first = ap (λ c. slice_get c 0) l.code
-
-      at_ticks : (k : ℕ) → now.ticks ≡ k → AnswersFrom x.m x.lets x.s.hart (J.called x.m h q place) q (v ∷ []) now
-          (goes_on (R.tick_at k now) (λ t. gone x.s world d v (direction_at x.s d)))
-      at_ticks zero ticks =
-          runs_over (ap (λ o. act x.m x.lets x.s.hart (J.called x.m h q place) (or_stop o) (entry x.m q (v ∷ [])) (bare now)) ticks_first
-          ∙ ap (λ k. J.tick k (entry x.m q (v ∷ [])) (bare now)) ticks)
-      at_ticks (suc left) ticks =
-          subst (λ (b : Run Item Value). AnswersFrom x.m x.lets x.s.hart (J.called x.m h q place) q (v ∷ []) now (b (record now { ticks = left }))) (sym same)
-          (crossed_d n ih d p v l h place active (crossing fol there) now left ticks lt had)
-
   both_good : (n : ℕ) → BothGood n
   both_good zero = record {
     calls_ = λ active h p fol place i a vs now leads lt. none_less now.ticks lt;
-    crosses_ = λ active h p fol place d v now there had lt. none_less now.ticks lt;
+    crosses_ = λ active h p fol place d v now there had lt. none_less (suc now.ticks) lt;
   }
   both_good (suc n) = let ih = both_good n in record {
     calls_ = λ active h p fol place i a vs now leads lt. calls_step n ih active h p fol place i a vs now leads lt;
@@ -608,8 +710,8 @@ module _ (x : Made) (agrees : Agrees x) (all : AllLowered x) (turned : AllTurned
   }
 
 pub calls_answer : CallsAnswer
-calls_answer x agrees all turned begins n active h p fol place i a vs now leads lt =
-    (both_good x agrees all turned begins n).calls_ active h p fol place i a vs now leads lt
+calls_answer x agrees all turned takes begins n active h p fol place i a vs now leads lt =
+    (both_good x agrees all turned takes begins n).calls_ active h p fol place i a vs now leads lt
 
 -- what an event enters
 module _ (x : Made) (n : ℕ) where
@@ -620,40 +722,41 @@ module _ (x : Made) (n : ℕ) where
   event_entering i p vs f nu =
       needs (x.s.sizing.enters i p nu vs) then λ xs. framed (event_framing f (x.s.sizing.function i p nu) nu xs)
 
-module _ (x : Made) (agrees : Agrees x) (all : AllLowered x) (turned : AllTurned x) (begins : AllTick x) (events : EventsLowered x) where
-  event_step : (n i : ℕ) (a : Instance) (vs : List Value) (now : Now Item) → x.of a.place ≡ i → x.awaits a.place ≡ Some a.numbers → now.ticks < n
-      → AnswersFrom x.m x.lets x.s.hart (J.alone (x.event a.place)) (x.event a.place) vs now
-      (event_of x.s (calls x.s n) i (Some a) vs (slice_get x.s.functions i) now)
-  event_step n i a vs now of awaits few = at_function (slice_get x.s.functions i) refl
-    where
-      q : ℕ
-      q = x.event a.place
+module _ (x : Made) (agrees : Agrees x) (all : AllLowered x) (turned : AllTurned x) (takes : AllTaken x) (begins : AllTick x) (events : EventsLowered x)
+  where
+    event_step : (n i : ℕ) (a : Instance) (vs : List Value) (now : Now Item) → x.of a.place ≡ i → x.awaits a.place ≡ Some a.numbers → now.ticks < n
+        → AnswersFrom x.m x.lets x.s.hart (J.alone (x.event a.place)) (x.event a.place) vs now
+        (event_of x.s (calls x.s n) i (Some a) vs (slice_get x.s.functions i) now)
+    event_step n i a vs now of awaits few = at_function (slice_get x.s.functions i) refl
+      where
+        q : ℕ
+        q = x.event a.place
 
-      at_items : (f : Function) → slice_get x.s.functions i ≡ Some f → (nu : Givens) → all_agree a.numbers nu ≡ true → (o : Option (List Item))
-          → x.s.sizing.enters i a.place nu vs ≡ o → AnswersFrom x.m x.lets x.s.hart (J.alone q) q vs now
-          (goes_on (needs o now) (λ xs. framed (event_framing x n f (x.s.sizing.function i a.place nu) nu xs)))
-      at_items f e nu agree None er = tt
-      at_items f e nu agree (Some xs) er =
-          let l : Lowered x (x.event a.place) event_shape i a.place f nu vs xs = events i a.place f a.numbers nu vs xs of awaits agree e er in
-          subst (λ z. AnswersFrom x.m x.lets x.s.hart (J.alone q) q vs now (framed (event_framing x n f z nu xs) now)) (sym l.reads)
-          (event_answers x agrees all turned begins n (both_good x agrees all turned begins n) a.place i f nu vs xs l now few)
+        at_items : (f : Function) → slice_get x.s.functions i ≡ Some f → (nu : Givens) → all_agree a.numbers nu ≡ true → (o : Option (List Item))
+            → x.s.sizing.enters i a.place nu vs ≡ o → AnswersFrom x.m x.lets x.s.hart (J.alone q) q vs now
+            (goes_on (needs o now) (λ xs. framed (event_framing x n f (x.s.sizing.function i a.place nu) nu xs)))
+        at_items f e nu agree None er = tt
+        at_items f e nu agree (Some xs) er =
+            let l : Lowered x (x.event a.place) event_shape i a.place f nu vs xs = events i a.place f a.numbers nu vs xs of awaits agree e er in
+            subst (λ z. AnswersFrom x.m x.lets x.s.hart (J.alone q) q vs now (framed (event_framing x n f z nu xs) now)) (sym l.reads)
+            (event_answers x agrees all turned takes begins n (both_good x agrees all turned takes begins n) a.place i f nu vs xs l now few)
 
-      at_awaited : (f : Function) → slice_get x.s.functions i ≡ Some f → (nu : Givens) (b : Bool) → all_agree a.numbers nu ≡ b
-          → AnswersFrom x.m x.lets x.s.hart (J.alone q) q vs now (if_so (event_entering x n i a.place vs f nu) stuck b now)
-      at_awaited f e nu true agree = at_items f e nu agree (x.s.sizing.enters i a.place nu vs) refl
-      at_awaited f e nu false agree = tt
+        at_awaited : (f : Function) → slice_get x.s.functions i ≡ Some f → (nu : Givens) (b : Bool) → all_agree a.numbers nu ≡ b
+            → AnswersFrom x.m x.lets x.s.hart (J.alone q) q vs now (if_so (event_entering x n i a.place vs f nu) stuck b now)
+        at_awaited f e nu true agree = at_items f e nu agree (x.s.sizing.enters i a.place nu vs) refl
+        at_awaited f e nu false agree = tt
 
-      at_givens : (f : Function) → slice_get x.s.functions i ≡ Some f → (o : Option Givens)
-          → AnswersFrom x.m x.lets x.s.hart (J.alone q) q vs now
-          (goes_on (needs o now) (λ nu. if_so (event_entering x n i a.place vs f nu) stuck (as_awaited (Some a) nu)))
-      at_givens f e None = tt
-      at_givens f e (Some nu) = at_awaited f e nu (as_awaited (Some a) nu) refl
+        at_givens : (f : Function) → slice_get x.s.functions i ≡ Some f → (o : Option Givens)
+            → AnswersFrom x.m x.lets x.s.hart (J.alone q) q vs now
+            (goes_on (needs o now) (λ nu. if_so (event_entering x n i a.place vs f nu) stuck (as_awaited (Some a) nu)))
+        at_givens f e None = tt
+        at_givens f e (Some nu) = at_awaited f e nu (as_awaited (Some a) nu) refl
 
-      at_function : (o : Option Function) → slice_get x.s.functions i ≡ o
-          → AnswersFrom x.m x.lets x.s.hart (J.alone q) q vs now (event_of x.s (calls x.s n) i (Some a) vs o now)
-      at_function None e = tt
-      at_function (Some f) e = at_givens f e (givens_of (length f.variables) f.parameters vs)
+        at_function : (o : Option Function) → slice_get x.s.functions i ≡ o
+            → AnswersFrom x.m x.lets x.s.hart (J.alone q) q vs now (event_of x.s (calls x.s n) i (Some a) vs o now)
+        at_function None e = tt
+        at_function (Some f) e = at_givens f e (givens_of (length f.variables) f.parameters vs)
 
 pub events_answer : EventsAnswer
-events_answer x agrees all turned begins events n i a vs now of awaits few =
-    event_step x agrees all turned begins events n i a vs now of awaits few
+events_answer x agrees all turned takes begins events n i a vs now of awaits few =
+    event_step x agrees all turned takes begins events n i a vs now of awaits few

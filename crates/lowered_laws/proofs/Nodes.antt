@@ -61,6 +61,7 @@ use Rattle.lowered_laws.proofs.Lasting.{item_right, let_right, met_right, path_r
 use Rattle.lowered_laws.proofs.Applied.{applied_good, applied_right}
 use Rattle.lowered_laws.proofs.WithFields.{with_several_good}
 use Rattle.lowered_pieces.specs.Mapped.{ends_with, fixed_end}
+use Rattle.lowered_laws.proofs.ArmSteps.{Sees, nowhere}
 use Rattle.lowered_laws.proofs.Arms.{Fit, match_good, let_good, clauses_good}
 use Rattle.lowered_laws.proofs.Tries.{try_good}
 use Rattle.lowered_laws.proofs.Gathered.{state_good, state_right}
@@ -137,11 +138,16 @@ module _ (g : AtWork) (callees : Callees) (w : World Item) (calls : CallsOk g ca
   all_right [] h = tt
   all_right (y ∷ ys) h = let q = and_parts (ok y.0) (all_lowered (nodes ys)) h in ((y.1 q.0).1, all_right ys q.1)
 
-  arm_known : (arm : Arm) → arm_fits callees.size g.tables.reads arm ≡ true → Fit g w (arm_fits g.size g.tables.reads arm)
-  arm_known arm h = (subst (λ (f : Num → Option ℤ). arm_fits f g.tables.reads arm ≡ true) around.sized h, around.widths)
+  sees : Sees g w callees.crosses
+  sees d x now there tk = calls.sees (nowhere g) d x now there tk
 
-  arms_known : (arms : List Arm) → arms_fit callees.size g.tables.reads arms ≡ true → Fit g w (arms_fit g.size g.tables.reads arms)
-  arms_known arms h = (subst (λ (f : Num → Option ℤ). arms_fit f g.tables.reads arms ≡ true) around.sized h, around.widths)
+  arm_known : (arm : Arm) → arm_fits callees.size callees.crosses g.tables.reads arm ≡ true
+      → Fit g w callees.crosses (arm_fits g.size callees.crosses g.tables.reads arm)
+  arm_known arm h = (subst (λ (f : Num → Option ℤ). arm_fits f callees.crosses g.tables.reads arm ≡ true) around.sized h, around.widths, sees)
+
+  arms_known : (arms : List Arm) → arms_fit callees.size callees.crosses g.tables.reads arms ≡ true
+      → Fit g w callees.crosses (arms_fit g.size callees.crosses g.tables.reads arms)
+  arms_known arms h = (subst (λ (f : Num → Option ℤ). arms_fit f callees.crosses g.tables.reads arms ≡ true) around.sized h, around.widths, sees)
 
   unit_good : Good g (gives (nothing (reading g))) (unit_piece (kit g))
   unit_good = constant_good g (fixed_typ g.table T.Unit) L.Unit (unit_sits g)
@@ -156,11 +162,12 @@ module _ (g : AtWork) (callees : Callees) (w : World Item) (calls : CallsOk g ca
   block_sim k (S.Define place arm ∷ ss) [] h = no h
   block_sim k (S.Declare name written ∷ ss) [] h = no h
   block_sim k (S.Define place arm ∷ ss) (y ∷ ys) h =
-      let q = and_parts (arm_fits callees.size g.tables.reads arm) (is_matched (at_node y.0) && block_lowered callees g.tables ss (nodes ys)) h in
+      let q =
+      and_parts (arm_fits callees.size callees.crosses g.tables.reads arm) (is_matched (at_node y.0) && block_lowered callees g.tables ss (nodes ys)) h in
       let p = and_parts (is_matched (at_node y.0)) (block_lowered callees g.tables ss (nodes ys)) q.1 in
       let r = and_parts (ok y.0) (has_ends (code y.0).ends) p.0 in
       let it = y.1 r.0 in
-      let_good g w k (length ss) place (me y.0) (code y.0) arm (block (reading g) w k ss (runs ys))
+      let_good g w callees.crosses k (length ss) place (me y.0) (code y.0) arm (block (reading g) w k ss (runs ys))
       (block_piece g.table (kit g) g.number callees g.tables k ss (pieces ys)) (arm_known arm q.0) it.0 it.1 r.1 (block_sim k ss ys p.1)
   block_sim k (S.Evaluate ∷ ss) (y ∷ ys) h =
       let q = and_parts (ok y.0) (block_lowered callees g.tables ss (nodes ys)) h in
@@ -195,7 +202,8 @@ module _ (g : AtWork) (callees : Callees) (w : World Item) (calls : CallsOk g ca
   block_said k (S.Define place arm ∷ ss) [] h = no h
   block_said k (S.Declare name written ∷ ss) [] h = no h
   block_said k (S.Define place arm ∷ ss) (y ∷ ys) h =
-      let q = and_parts (arm_fits callees.size g.tables.reads arm) (is_matched (at_node y.0) && block_lowered callees g.tables ss (nodes ys)) h in
+      let q =
+      and_parts (arm_fits callees.size callees.crosses g.tables.reads arm) (is_matched (at_node y.0) && block_lowered callees g.tables ss (nodes ys)) h in
       let p = and_parts (is_matched (at_node y.0)) (block_lowered callees g.tables ss (nodes ys)) q.1 in
       bound_right k (length ss) place (me y.0) arm (block_in k ss ys) (ends_in k ss ys) (block_said k ss ys p.1)
   block_said k (S.Evaluate ∷ ss) (y ∷ ys) h =
@@ -437,34 +445,34 @@ module _ (g : AtWork) (callees : Callees) (w : World Item) (calls : CallsOk g ca
         tested_right (code b.0).ends (me a.0) (truth (reading g)) (me b.0) (b.1 q.1).1,
       )
   kind_sim place k (K.Let arm) (a ∷ b ∷ []) h =
-      let q = and_parts (arm_fits callees.size g.tables.reads arm) (is_matched (at_node a.0) && ok b.0) h in
+      let q = and_parts (arm_fits callees.size callees.crosses g.tables.reads arm) (is_matched (at_node a.0) && ok b.0) h in
       let p = and_parts (is_matched (at_node a.0)) (ok b.0) q.1 in
       let r = and_parts (ok a.0) (has_ends (code a.0).ends) p.0 in
       let it = a.1 r.0 in
       let body = b.1 p.1 in (
-        let_good g w k 0 place (me a.0) (code a.0) arm (me b.0) (code b.0) (arm_known arm q.0) it.0 it.1 r.1 body.0,
+        let_good g w callees.crosses k 0 place (me a.0) (code a.0) arm (me b.0) (code b.0) (arm_known arm q.0) it.0 it.1 r.1 body.0,
         bound_right k 0 place (me a.0) arm (me b.0) (code b.0).ends body.1,
       )
   kind_sim place k (K.Match arms shape) (y ∷ ys) h =
-      let q = and_parts (is_matched (at_node y.0)) (arms_fit callees.size g.tables.reads arms && all_lowered (nodes ys)) h in
-      let p = and_parts (arms_fit callees.size g.tables.reads arms) (all_lowered (nodes ys)) q.1 in
+      let q = and_parts (is_matched (at_node y.0)) (arms_fit callees.size callees.crosses g.tables.reads arms && all_lowered (nodes ys)) h in
+      let p = and_parts (arms_fit callees.size callees.crosses g.tables.reads arms) (all_lowered (nodes ys)) q.1 in
       let r = and_parts (ok y.0) (has_ends (code y.0).ends) q.0 in
       let it = y.1 r.0 in
       let cause : Cause = MatchFailure place in
       let good =
       meet_good g (me y.0 then λ x. first_of (reading g) w k arms (runs ys) (stops cause) (x ∷ []))
       (match_piece g.table (kit g) (g.tables.named k) (code y.0) arms (pieces ys) cause)
-      (match_good g w k (me y.0) (code y.0) arms (runs ys) (pieces ys) cause (arms_known arms p.0) it.0 it.1 r.1 (all_sim ys p.1)) k in
+      (match_good g w callees.crosses k (me y.0) (code y.0) arms (runs ys) (pieces ys) cause (arms_known arms p.0) it.0 it.1 r.1 (all_sim ys p.1)) k in
       (good, met_right g k (me y.0 then λ x. first_of (reading g) w k arms (runs ys) (stops cause) (x ∷ [])))
   kind_sim place k (K.Try arms shape) (y ∷ ys) h =
       let es = ends_of (g.tables.gives k) (g.tables.cases k 0) in
-      let q = and_parts (ok y.0) (has_ends es && (arms_fit callees.size g.tables.reads arms && all_lowered (nodes ys))) h in
-      let p = and_parts (has_ends es) (arms_fit callees.size g.tables.reads arms && all_lowered (nodes ys)) q.1 in
-      let r = and_parts (arms_fit callees.size g.tables.reads arms) (all_lowered (nodes ys)) p.1 in
+      let q = and_parts (ok y.0) (has_ends es && (arms_fit callees.size callees.crosses g.tables.reads arms && all_lowered (nodes ys))) h in
+      let p = and_parts (has_ends es) (arms_fit callees.size callees.crosses g.tables.reads arms && all_lowered (nodes ys)) q.1 in
+      let r = and_parts (arms_fit callees.size callees.crosses g.tables.reads arms) (all_lowered (nodes ys)) p.1 in
       let good =
       meet_good g (tried (reading g) w k arms (runs ys) (me y.0))
       (try_piece g.table (kit g) (g.tables.cases k 0) (g.tables.gives k) (g.tables.named k) arms (pieces ys) (code y.0))
-      (try_good g w k arms (runs ys) (pieces ys) (arms_known arms r.0) p.0 (all_sim ys r.1) (me y.0) (code y.0) (y.1 q.0).0) k in
+      (try_good g w callees.crosses k arms (runs ys) (pieces ys) (arms_known arms r.0) p.0 (all_sim ys r.1) (me y.0) (code y.0) (y.1 q.0).0) k in
       (good, met_right g k (tried (reading g) w k arms (runs ys) (me y.0)))
   kind_sim place k (K.Call (F.Applies d)) (y ∷ []) h =
       let q = and_parts (applied_lowered callees d (code y.0).ends) (ok y.0) h in
@@ -472,8 +480,10 @@ module _ (g : AtWork) (callees : Callees) (w : World Item) (calls : CallsOk g ca
       let it = y.1 q.1 in
       (applied_good g callees w calls place k d (me y.0) (code y.0) it.0 it.1 p.1 p.0, applied_right g callees w calls place k d (me y.0))
   kind_sim place k (K.Clauses arms) ys h =
-      let q = and_parts (arms_fit callees.size g.tables.reads arms) (all_lowered (nodes ys)) h in
-      let good = clauses_good g w k callees.given arms (runs ys) (pieces ys) around.arguments around.given around.had (arms_known arms q.0) (all_sim ys q.1) in
+      let q = and_parts (arms_fit callees.size callees.crosses g.tables.reads arms) (all_lowered (nodes ys)) h in
+      let good =
+      clauses_good g w callees.crosses k callees.given arms (runs ys) (pieces ys) around.arguments around.given around.had (arms_known arms q.0)
+      (all_sim ys q.1) in
       (record { run = good.run }, clauses_right g w k w.arguments arms (runs ys) (pieces ys) (all_right ys q.1))
   kind_sim place k kind ys h = no h
 

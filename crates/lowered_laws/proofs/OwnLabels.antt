@@ -1,6 +1,6 @@
 -- The code of a node sets no labels but its own and its tail's, and none of them twice.
 use Rattle.std.proofs.Common.{◌≡◌, ℕ, zero, suc, ◌+◌, ◌≤◌, ℤ, Bool, true, false, List, [], ◌∷◌, ◌++◌, length, map, reverse, Option, Some, None}
-use Rattle.std.proofs.Common.{refl, sym, subst, ap, arith, if◌then◌else◌}
+use Rattle.std.proofs.Common.{refl, sym, subst, ap, arith, cond, if◌then◌else◌}
 use Rattle.std.specs.Prelude.{nat_eq}
 use Rattle.sail_base.specs.declared.place.Place.{Place as TextPlace}
 use Rattle.sail_types.specs.declared.table.Types.{Types}
@@ -33,9 +33,10 @@ use Rattle.sail_core.specs.declared.tree.Core.{Core, Core-F, roll-Core, fold-rol
 use Rattle.sized_nodes.specs.declared.trees.Case.{Case}
 use Rattle.sail_types.specs.declared.types.Typ.TheVariants as T
 use Rattle.sail_core.specs.Values.{int_typ, literal_typ}
-use Rattle.lowered_pieces.specs.Places.{Raised, Temp, Kit, from, to}
+use Rattle.lowered_pieces.specs.Places.{Place, Raised, Temp, Mapped, Kit, from, to}
+use Rattle.lowered_pieces.specs.Moves.{move}
 use Rattle.lowered_pieces.specs.Chains.{by_case, chain_labels, many}
-use Rattle.lowered_laws.specs.CodeLaws.{Own, inside, sets}
+use Rattle.lowered_laws.specs.CodeLaws.{Own, inside, is_set, sets}
 use Rattle.lowered_laws.proofs.Labels.{sets_append, inside_more, by_case_own}
 use Rattle.lowered_pieces.specs.Tables.{Tables}
 use Rattle.lowered_pieces.specs.Forms.{construct_make, kit_at, inner, inside_piece, Stand, Tail, Piece}
@@ -52,8 +53,8 @@ use Rattle.lowered_pieces.specs.Arms.{Choice, Held, Hand, Matched, Taken, Taking
 use Rattle.lowered_pieces.specs.Arms.{picked_of, places_of, skipped, steps_in, arm_noted, takes_code, vector_takes, word_takes, part_at}
 use Rattle.lowered_pieces.specs.Arms.{first_code, list_code, rest_at}
 use Rattle.lowered_pieces.specs.Arms.{fields_code}
-use Rattle.lowered_pieces.specs.Arms.{one_taken, many_taken, payload_taken, head_taken, at_hand, step_taken, step_hand, steps_code, begun, moved, arm_hand}
-use Rattle.lowered_pieces.specs.Arms.{arm_stand}
+use Rattle.lowered_pieces.specs.Arms.{one_taken, many_taken, payload_taken, head_taken, at_hand, seen_code, step_code, step_hand, steps_code, begun, moved}
+use Rattle.lowered_pieces.specs.Arms.{arm_hand, arm_stand}
 use Rattle.lowered_pieces.specs.Arms.{choice_code, looks_code, hand_of, arm_piece, failing, else_piece, first_piece, stop_here, fall_piece, match_piece}
 use Rattle.lowered_pieces.specs.Arms.{let_piece}
 use Rattle.lowered_pieces.specs.Arms.{thrown_code, throw_here, raised_piece, caught_piece, catch_piece, try_piece}
@@ -260,19 +261,30 @@ module _ (types : Types) (kit : Kit) (number : Sized → ℕ) where
   head_bare h H.List n q fail k = list_bare h n q fail k
   head_bare h H.Cons n q fail k = omega arith
 
-  step_bare : (st : Step) (hd : Hand) (fail k : ℕ) → sets k (step_taken types kit st hd fail).code ≡ 0
-  step_bare (P.Opens i head n) hd fail k = head_bare (at_hand types kit hd.values i) head n hd.free fail k
-  step_bare st hd fail k = omega arith
+  move_bare : (p : Place) (u : ℕ) (q : Place) (t k : ℕ) → is_set k (move kit p u q t) ≡ 0
+  move_bare p u q t k = by (nat_eq t u)
+    where
+      by : (b : Bool) → is_set k (cond b (I.Copy (to kit p u) (from kit q t)) (I.Apply (to kit p u) O.Same (from kit q t ∷ []))) ≡ 0
+      by true = refl
+      by false = refl
 
-  steps_bare : (ss : List Step) (hd : Hand) (fail k : ℕ) → sets k (steps_code types kit ss hd fail) ≡ 0
-  steps_bare [] hd fail k = omega arith
-  steps_bare (st ∷ ss) hd fail k =
+  seen_bare : (m : Mapped) (h : Held) (q throw k : ℕ) → sets k (seen_code types kit m h q throw) ≡ 0
+  seen_bare m h q throw k = omega (arith, move_bare (Temp q) (kit.number m.takes) h.place (kit.number h.typ) k)
+
+  step_bare : (st : Step) (hd : Hand) (throw fail k : ℕ) → sets k (step_code types kit st hd throw fail) ≡ 0
+  step_bare (P.Opens i head n) hd throw fail k = head_bare (at_hand types kit hd.values i) head n hd.free fail k
+  step_bare (P.Names i name) hd throw fail k = omega arith
+  step_bare (P.Sees i d) hd throw fail k = seen_bare (kit.ways d) (at_hand types kit hd.values i) hd.free throw k
+
+  steps_bare : (ss : List Step) (hd : Hand) (throw fail k : ℕ) → sets k (steps_code types kit ss hd throw fail) ≡ 0
+  steps_bare [] hd throw fail k = omega arith
+  steps_bare (st ∷ ss) hd throw fail k =
       let hd2 : Hand = step_hand types kit st hd fail in
       omega (
         arith,
-        sets_append k (step_taken types kit st hd fail).code (steps_code types kit ss hd2 fail),
-        step_bare st hd fail k,
-        steps_bare ss hd2 fail k,
+        sets_append k (step_code types kit st hd throw fail) (steps_code types kit ss hd2 throw fail),
+        step_bare st hd throw fail k,
+        steps_bare ss hd2 throw fail k,
       )
 
   -- labels of a choice are as many as types
@@ -293,12 +305,12 @@ module _ (types : Types) (kit : Kit) (number : Sized → ℕ) where
   choice_own : (gives : List Indices) (ss : List Step) (q : ℕ) (s : Stand) (c : Choice) → Own (choice_code types kit gives ss q s c) 0
   choice_own gives ss q s c k l =
       let hd : Hand = arm_hand types kit ss q s.on_no c.values in
-      let c1 : List Instruction = steps_code types kit ss (begun types kit c.values q) s.on_no in
+      let c1 : List Instruction = steps_code types kit ss (begun types kit c.values q) s.on_throw s.on_no in
       let c2 : List Instruction = arm_noted (kit_at kit s.depths) gives (c.values ++ hd.named) hd.free in
       omega (
         arith,
         sets_append k c1 c2,
-        steps_bare ss (begun types kit c.values q) s.on_no k,
+        steps_bare ss (begun types kit c.values q) s.on_throw s.on_no k,
         arm_noted_bare (kit_at kit s.depths) gives (c.values ++ hd.named) hd.free k,
       )
 

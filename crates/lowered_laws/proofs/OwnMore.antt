@@ -17,8 +17,9 @@ use Rattle.lowered_pieces.specs.Moves.{retype}
 use Rattle.lowered_pieces.specs.Counted.{bounds_code, bounds_labels, foreach_piece, next_code, turn_code, turn_stand}
 use Rattle.lowered_pieces.specs.Fields.{field_types_of, fields_out, with_code, with_make, with_sources}
 use Rattle.lowered_pieces.specs.Gathered.{only_end}
+use Rattle.lowered_pieces.specs.Places.{Mapped}
 use Rattle.lowered_pieces.specs.Mapped.{applied_piece, direction_call, none_piece, operand_moved, some_piece, some_tail}
-use Rattle.lowered_pieces.specs.Forms.{Mapped, Piece, Stand, Tail, answer_make, code_of, count_of, higher, made_code, unit_piece}
+use Rattle.lowered_pieces.specs.Forms.{Piece, Stand, Tail, answer_make, code_of, count_of, higher, made_code, unit_piece}
 use Rattle.lowered_laws.specs.CodeLaws.{Own, sets}
 use Rattle.lowered_laws.proofs.Labels.{retype_own, sets_append}
 use Rattle.lowered_laws.specs.FormLaws.{OwnTail}
@@ -120,7 +121,7 @@ module _ (kit : Kit) where
       let c5 : List Instruction =
       made_code kit kit.number 1 (answer_make kit kit.number (kit.number m.payload)) cases gives tail s (l + 2 + n) in
       let t3 : List Instruction =
-      direction_call kit place m s ∷ I.Payload (kit.name (Temp s.temp) (kit.number m.payload)) (from kit (Temp s.temp) (kit.number m.gives)) 0 l
+      I.Tick ∷ direction_call kit place m s ∷ I.Payload (kit.name (Temp s.temp) (kit.number m.payload)) (from kit (Temp s.temp) (kit.number m.gives)) 0 l
       ∷ I.Goto (l + 1) ∷ I.Label l ∷ I.Stop (MatchFailure place) ∷ I.Label (l + 1) ∷ c5 in
       omega (
         arith,

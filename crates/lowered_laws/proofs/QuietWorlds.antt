@@ -97,5 +97,6 @@ module _ (types : Types) (s : Setting Item) (read : ℕ → Cases)
     enter = λ active d v. gone_q (world_of s (calls s n) active []) (worlds_q (calls s n) ih active []) d v (direction_at s d) refl;
   }
 
-  pub worlds_stay : (n : ℕ) (active : Measures) (nu : Givens) (xs : List Item) → QuietWorld (world_of s (calls s n) active nu xs)
-  worlds_stay n active nu xs = worlds_q (calls s n) (calls_q n) active nu xs
+  pub worlds_stay : (n : ℕ) (active : Measures) (rank : ℕ) (nu : Givens) (xs : List Item)
+      → QuietWorld (asking s (calls s n) active (ways s (calls s n) active rank) nu xs)
+  worlds_stay n active rank nu xs = world_q (calls s n) (calls_q n) active (ways s (calls s n) active rank) (ways_q (calls s n) (calls_q n) active rank) nu xs

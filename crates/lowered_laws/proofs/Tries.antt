@@ -1,5 +1,5 @@
 -- What is thrown in a piece is matched where it is caught.
-use Rattle.std.proofs.Common.{◌≡◌, ◌∙◌, ℕ, ◌+◌, ◌<◌, ℤ, true, List, [], ◌∷◌, ◌++◌, length, Option, refl, sym, ap, arith, length-append}
+use Rattle.std.proofs.Common.{◌≡◌, ◌∙◌, ℕ, ◌+◌, ◌<◌, ℤ, Bool, true, List, [], ◌∷◌, ◌++◌, length, Option, refl, sym, ap, arith, length-append}
 use Rattle.sail_types.specs.declared.values.Value.{Value}
 use Rattle.value_indices.specs.declared.indices.Indices.{Indices}
 use Rattle.jib.specs.declared.code.Instruction.{Instruction}
@@ -95,7 +95,8 @@ module _ (g : AtWork) where
 
   -- ---- the arms of what is caught
 
-  module _ (w : World Item) (k : ℕ) (arms : List Arm) (ms : List (Run Item Item)) (bs : List Piece) (lowered : Fit g w (arms_fit g.size g.tables.reads arms))
+  module _ (w : World Item) (crosses : ℕ → Bool) (k : ℕ) (arms : List Arm) (ms : List (Run Item Item)) (bs : List Piece)
+      (lowered : Fit g w crosses (arms_fit g.size crosses g.tables.reads arms))
       (said : has_ends (ends_of (g.tables.gives k) (g.tables.cases k 0)) ≡ true) (all : GoodAll g ms bs) where
     abbrev is : List Indices
     is = g.tables.gives k
@@ -139,7 +140,7 @@ module _ (g : AtWork) where
         landed g s p1 sl now x u
         (record {
           by = λ sl2 k2 e2 had2.
-              (first_on g w k (in_hand ends) (x ∷ []) arms ms bs (throws v) (throw_here g.table (kit g) (in_hand ends)) lowered all
+              (first_on g w crosses k (in_hand ends) (x ∷ []) arms ms bs (throws v) (throw_here g.table (kit g) (in_hand ends)) lowered all
               (throw_on (in_hand ends) x v y.1.0)).run
               tail s lb p1 pe ph pf sl2 u (omega (arith, k2.fewer, tk)) (omega (arith, end, length-append c1 c2))
               (has_back (own_code g) pc c1 c2 p1 refl at_) set

@@ -56,8 +56,8 @@ module _ (g : AtWork) (option payload : Sized) (place : TextPlace)
   -- how the run ends, by how the clauses do
   pub option_good : (m : Run Item Item) (a : Piece) → Good g m a → TypedBy payload m → (pc : ℕ) (sl : Slots) (now : Now Item) → now.ticks < g.depth
       → HasAt (own_code g) pc (event_code (kit g) place (optional_piece g.table (kit g) option payload a)) → Same g body_depths [] 0 sl now
-      → Followed g.ending (m now) (λ x t. g.ending ≡ J.Gives (V.Union 0 0 x.val) (bare t)) (λ v t. g.ending ≡ J.Throws v (bare t))
-      (λ t. g.ending ≡ J.Gives (V.Union 0 1 V.Unit) (bare t))
+      → Followed g.ending (m now) (λ x t. has_sizes g.table x.val payload ≡ true → g.ending ≡ J.Gives (V.Union 0 0 x.val) (bare t))
+      (λ v t. g.ending ≡ J.Throws v (bare t)) (λ t. g.ending ≡ J.Gives (V.Union 0 1 V.Unit) (bare t))
       → RunsOn g pc sl (bare now)
   option_good m a good typed pc sl now tk at_ same th =
       let c1 : List Instruction = first a in
@@ -71,7 +71,7 @@ module _ (g : AtWork) (option payload : Sized) (place : TextPlace)
       let h2 : HasAt (own_code g) p1 c2 = has_back (own_code g) pc c1 c2 p1 refl h in
       let h3 : HasAt (own_code g) pe c3 = has_back (own_code g) pc (c1 ++ c2) c3 pe refl at_ in
       let set : LabelsStand g inner ph pf = record { throws = h3.1.1.0; fails = h2.1.0 } in
-      let K : Item → Now Item → Type 0 = λ x t. g.ending ≡ J.Gives (V.Union 0 0 x.val) (bare t) in
+      let K : Item → Now Item → Type 0 = λ x t. has_sizes g.table x.val payload ≡ true → g.ending ≡ J.Gives (V.Union 0 0 x.val) (bare t) in
       let H : Value → Now Item → Type 0 = λ v t. g.ending ≡ J.Throws v (bare t) in
       let N : Now Item → Type 0 = λ t. g.ending ≡ J.Gives (V.Union 0 1 V.Unit) (bare t) in
       let typed_ : Item → Now Item → Type 0 = λ x t. payload ≡ x.typ in
@@ -91,7 +91,7 @@ module _ (g : AtWork) (option payload : Sized) (place : TextPlace)
             constructs g 0 0 0 q1 (from (kit g) (Temp 0) (g.number payload)) x.val option sl2 t (λ j. e2 j ∷ []) (somes x.val had.0, known) (hq.0, tt)
             (λ sl3 td3 e3.
             over g.m g.lets g.hart g.here g.ending (q1 + 1) sl3 (bare t) (I.End (from (kit g) (Temp 0) (g.number option))) hq.1.0
-            (ap (λ w. Over (J.Gives w (bare t))) e3 ∙ ap Over (sym both.0))));
+            (ap (λ w. Over (J.Gives w (bare t))) e3 ∙ ap Over (sym (both.0 had.0)))));
       })
       (λ v t e. record {
         by = λ sl1 k1 is.

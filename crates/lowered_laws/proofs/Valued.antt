@@ -35,11 +35,12 @@ use Rattle.lowered_pieces.specs.Openings.{named_piece}
 use Rattle.lowered_laws.specs.Opened.{NamesAnswer, ValuesAnswer, held_typ, name_hand, name_run}
 use Rattle.lowered_laws.specs.Simulation.{AtWork, own_code, Catches, Done, Fails, Good, Holding, Holds}
 use Rattle.lowered_laws.specs.Simulation.{RunsOn, Same, LabelsStand, Sits, After, Followed, bare, kit, reading}
-use Rattle.lowered_laws.proofs.Arms.{HandIs, brought, steps_run}
-use Rattle.lowered_laws.proofs.Follows.{onward, open_then}
+use Rattle.lowered_laws.proofs.ArmSteps.{HandIs, steps_run}
+use Rattle.lowered_laws.proofs.Arms.{brought}
+use Rattle.lowered_laws.proofs.Follows.{no, onward, open_then}
 use Rattle.lowered_laws.proofs.Functions.{all_here}
 use Rattle.lowered_laws.proofs.Names.{held_read}
-use Rattle.lowered_laws.proofs.States.{Is, after_here, after_put, after_tested}
+use Rattle.lowered_laws.proofs.States.{Is, after_here, after_put, after_tested, after_time}
 use Rattle.lowered_laws.proofs.Works.{none_is, some_same}
 
 -- ---- a value, which its function gives
@@ -92,7 +93,8 @@ module _ (g : AtWork) where
   -- ---- a name of a let: its value comes in hand, its steps look at it, and what the name holds comes to the place for it
 
   module _ (w : World Item) (place : TextPlace) (k : ℕ) (whole typ : Sized) (ss : List Step) (text : List ℕ) (v : Value)
-      (lowered : steps_fit g.size g.tables.reads ss ≡ true) (widths : (t : Num) (z : ℤ) → g.size t ≡ Some z → known w.numbers t ≡ Some z)
+      (lowered : steps_fit g.size (λ d. false) g.tables.reads ss ≡ true)
+      (widths : (t : Num) (z : ℤ) → g.size t ≡ Some z → known w.numbers t ≡ Some z)
       (is_typ : held_typ (name_hand g ss whole).names (name_hand g ss whole).named text ≡ Some typ) (given : slice_index_or g.lets k V.Unit ≡ v)
       (had : Sits g v whole) (sl : Slots) (now : Now Item)
       (at_ : HasAt (own_code g) 0 (event_code (kit g) place (named_piece g.table (kit g) [] place k whole (A.Flat 0 ss) text typ)))
@@ -113,7 +115,7 @@ module _ (g : AtWork) where
     first = I.Copy (to (kit g) (Temp 0) (g.number whole)) (S.Let k)
 
     abbrev steps : List Instruction
-    steps = steps_code g.table (kit g) ss start 3
+    steps = steps_code g.table (kit g) ss start 0 3
 
     abbrev copied : Instruction
     copied = I.Copy (to (kit g) (Temp hand.free) (g.number typ)) (from (kit g) (place_of (hand.names ++ []) text) (g.number typ))
@@ -149,6 +151,15 @@ module _ (g : AtWork) where
     rest_here : HasAt (own_code g) behind rest
     rest_here = has_back (own_code g) 1 ((steps ++ []) ++ last) rest behind refl here.1
 
+    abbrev ends_from : ℕ
+    ends_from = 0 + length whole_code
+
+    abbrev thrown_at : ℕ
+    thrown_at = ends_from + 1 + 1
+
+    ends_here : HasAt (own_code g) ends_from (ends_code (kit g) place)
+    ends_here = has_back (own_code g) 0 whole_code (ends_code (kit g) place) ends_from refl at_
+
     abbrev last_from : ℕ
     last_from = 1 + length (steps ++ [])
 
@@ -165,35 +176,35 @@ module _ (g : AtWork) where
     after_first = after_put g body_depths [] 0 0 (g.number whole) sl sl now now v (omega arith) first_is (after_here g body_depths [] 0 sl now same)
 
     -- what the name holds comes in hand, and is given
-    held_given : (y : Item) → g.ending ≡ J.Gives y.val (bare now) → (sl2 : Slots) → After g body_depths [] 0 sl now sl2 now
-        → sl2 (g.name (place_of (hand.names ++ []) text) (g.number typ)) ≡ y.val → Sits g y.val typ → RunsOn g last_from sl2 (bare now)
-    held_given y is sl2 k2 stands sits =
+    held_given : (y : Item) (u : Now Item) → g.ending ≡ J.Gives y.val (bare u) → (sl2 : Slots) → After g body_depths [] 0 sl now sl2 u
+        → sl2 (g.name (place_of (hand.names ++ []) text) (g.number typ)) ≡ y.val → Sits g y.val typ → RunsOn g last_from sl2 (bare u)
+    held_given y u is sl2 k2 stands sits =
         let there : Is g (Temp hand.free) (g.number typ) = g.slots last_from (g.name (Temp hand.free) (g.number typ)) copied last_here.0 refl in
         let sl3 : Slots = put sl2 (g.name (Temp hand.free) (g.number typ)) y.val in
-        let k3 : After g body_depths [] 0 sl now sl3 now = after_put g body_depths [] 0 hand.free (g.number typ) sl sl2 now now y.val (omega arith) there k2 in
-        go g.m g.lets g.hart g.here g.ending last_from sl2 sl3 (bare now) (bare now) copied last_here.0
-        (ap (λ u. Go (put sl2 (g.name (Temp hand.free) (g.number typ)) u) (bare now)) stands)
-        (brought g tail inner hand.free (last_from + suc (length brought_code)) 5 (last_from + 1) sl sl3 now now (item typ y.val) k3
+        let k3 : After g body_depths [] 0 sl now sl3 u = after_put g body_depths [] 0 hand.free (g.number typ) sl sl2 now u y.val (omega arith) there k2 in
+        go g.m g.lets g.hart g.here g.ending last_from sl2 sl3 (bare u) (bare u) copied last_here.0
+        (ap (λ e. Go (put sl2 (g.name (Temp hand.free) (g.number typ)) e) (bare u)) stands)
+        (brought g tail inner hand.free (last_from + suc (length brought_code)) 5 (last_from + 1) sl sl3 now u (item typ y.val) k3
         (put_same sl2 (g.name (Temp hand.free) (g.number typ)) y.val) sits last_here.1
         (λ after then_ z. moves g.m g.lets g.hart g.here g.ending (last_from + suc (length brought_code)) (last_from + 1 + length brought_code) after then_
         (omega arith) z)
         (record {
           by = λ sl4 l q k4 e had4 hp out.
-              over g.m g.lets g.hart g.here g.ending q sl4 (bare now) (I.End (from (kit g) (Temp 0) (g.number typ))) hp.0
-              (ap (λ u. Over (J.Gives u (bare now))) e ∙ ap Over (sym is));
+              over g.m g.lets g.hart g.here g.ending q sl4 (bare u) (I.End (from (kit g) (Temp 0) (g.number typ))) hp.0
+              (ap (λ b. Over (J.Gives b (bare u))) e ∙ ap Over (sym is));
         }))
 
-    found_given : (hr : P.Hand Item) (sl2 : Slots) → After g body_depths [] 0 sl now sl2 now → HandIs g hand hr sl2
-        → Followed g.ending (needs (held_in text hr.found) now) (λ y t. g.ending ≡ J.Gives y.val (bare t)) (λ u t. ⊥) Unmatched
-        → RunsOn g last_from sl2 (bare now)
-    found_given hr sl2 k2 is th = by (held_in text hr.found) refl th
+    found_given : (hr : P.Hand Item) (sl2 : Slots) (u : Now Item) → After g body_depths [] 0 sl now sl2 u → HandIs g hand hr sl2
+        → Followed g.ending (needs (held_in text hr.found) u) (λ y t. g.ending ≡ J.Gives y.val (bare t)) (λ v t. ⊥) Unmatched
+        → RunsOn g last_from sl2 (bare u)
+    found_given hr sl2 u k2 is th = by (held_in text hr.found) refl th
       where
         by : (o : Option Item) → held_in text hr.found ≡ o
-            → Followed g.ending (needs o now) (λ y t. g.ending ≡ J.Gives y.val (bare t)) (λ u t. ⊥) Unmatched → RunsOn g last_from sl2 (bare now)
+            → Followed g.ending (needs o u) (λ y t. g.ending ≡ J.Gives y.val (bare t)) (λ v t. ⊥) Unmatched → RunsOn g last_from sl2 (bare u)
         by None e z = absurd z
         by (Some y) e z =
             let typed = held_typed sl2 hand.names hand.named hr.found text y typ is.found is.held e is_typ in
-            held_given y z sl2 k2
+            held_given y u z sl2 k2
             (ap (λ ys. sl2 (g.name (place_of ys text) (g.number typ))) (append-nil hand.names)
             ∙ ap (λ t. sl2 (g.name (place_of hand.names text) (g.number t))) (sym typed.0) ∙ held_read g sl2 hand.names hr.found text y is.found e)
             (subst (λ t. Sits g y.val t) typed.0 typed.1)
@@ -203,8 +214,9 @@ module _ (g : AtWork) where
     name_runs th =
         go g.m g.lets g.hart g.here g.ending 0 sl slots1 (bare now) (bare now) first here.0
         (ap (λ u. Go (put sl (g.name (Temp 0) (g.number whole)) u) (bare now)) given)
-        (steps_run g ss w (lowered, widths) start begun_hand 1 (behind + 1) 3 slots1 now
-        (λ hr t. Followed g.ending (needs (held_in text hr.found) t) (λ y u. g.ending ≡ J.Gives y.val (bare u)) (λ u t. ⊥) Unmatched) (λ u t. ⊥) Unmatched
+        (steps_run g w (λ d. false) widths thrown_at (behind + 1) 0 3 ends_here.1.1.0 rest_here.1.0 (λ u t. ⊥) Unmatched ss lowered start begun_hand 1
+        slots1 now
+        (λ hr t. Followed g.ending (needs (held_in text hr.found) t) (λ y u. g.ending ≡ J.Gives y.val (bare u)) (λ u t. ⊥) Unmatched)
         (record {
           settled = (refl, tt);
           holding = (refl, put_same sl (g.name (Temp 0) (g.number whole)) v, had, tt);
@@ -214,16 +226,18 @@ module _ (g : AtWork) where
           kept = tt;
           held = tt;
         })
-        (has_front (own_code g) 1 steps [] (has_front (own_code g) 1 (steps ++ []) last arm_here)) rest_here.1.0
+        (λ d x u there le. no there) (has_front (own_code g) 1 steps [] (has_front (own_code g) 1 (steps ++ []) last arm_here))
         (open_then g.ending (steps_meaning (reading g) w ss begun_hand now) (λ hr. needs (held_in text hr.found)) (λ y t. g.ending ≡ J.Gives y.val (bare t))
         (λ u t. ⊥) Unmatched th)
-        (λ hr sl2 td is le z.
-        moves g.m g.lets g.hart g.here g.ending last_from (1 + length steps) sl2 (bare now) (omega (arith, length-append steps []))
-        (found_given hr sl2
-        (after_tested g body_depths [] 0 sl slots1 sl2 now now (tested_less (kit g) 0 1 slots1 sl2 (omega arith) td) after_first) is z))
-        (λ sl2 td e.
-        past g.m g.lets g.hart g.here g.ending (behind + 1) 3 sl2 (bare now) rest_here.1.0
-        (over g.m g.lets g.hart g.here g.ending (behind + 1 + 1) sl2 (bare now) (I.Stop (MatchFailure place)) rest_here.1.1.0 (ap Over (sym e)))))
+        (λ hr sl2 u td later is le z.
+        moves g.m g.lets g.hart g.here g.ending last_from (1 + length steps) sl2 (bare u) (omega (arith, length-append steps []))
+        (found_given hr sl2 u
+        (after_time g body_depths [] 0 sl sl2 now now u later.locals later.opened later.fewer
+        (after_tested g body_depths [] 0 sl slots1 sl2 now now (tested_less (kit g) 0 1 slots1 sl2 (omega arith) td) after_first)) is z))
+        (λ sl2 u td later e.
+        past g.m g.lets g.hart g.here g.ending (behind + 1) 3 sl2 (bare u) rest_here.1.0
+        (over g.m g.lets g.hart g.here g.ending (behind + 1 + 1) sl2 (bare u) (I.Stop (MatchFailure place)) rest_here.1.1.0 (ap Over (sym e))))
+        (λ sl2 e u td later none. absurd none))
 
 pub values_answer : ValuesAnswer
 values_answer g place me p good sl now few at_ same th = value_runs g place me p good sl now few at_ same th

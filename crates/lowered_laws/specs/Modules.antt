@@ -22,16 +22,16 @@ use Rattle.sail_types.specs.Places.{Given as Awaited}
 use Rattle.sail_types.specs.declared.numbers.Num.{Num}
 use Rattle.sail_types.specs.declared.numbers.Con.{Con}
 use Rattle.sail_core.specs.Numbers.{Givens, Instance, all_agree, known, known_truth}
-use Rattle.sail_core.specs.Program.{Measures, Setting, calls, event_of, nearest, world_of}
+use Rattle.sail_core.specs.Program.{Measures, Setting, asking, calls, event_of, nearest, ways}
 use Rattle.checked_meaning.specs.Checked.{Cases, checked}
 use Rattle.checked_meaning.specs.Fits.{has_sizes}
 use Rattle.checked_meaning.specs.Items.{Item, fixed_typ, item, typs, vals}
-use Rattle.lowered_pieces.specs.Places.{Naming, Given, Kit, Names, HasSlots}
+use Rattle.lowered_pieces.specs.Places.{Naming, Given, Mapped, Kit, Names, HasSlots}
 use Rattle.lowered_laws.specs.Standing.{Types}
 use Rattle.lowered_pieces.specs.Tables.{Tables}
 use Rattle.lowered_laws.specs.Telling.{Tells}
 use Rattle.lowered_laws.specs.Returning.{Stays}
-use Rattle.lowered_pieces.specs.Forms.{Piece, Callees, Mapped, cast_piece}
+use Rattle.lowered_pieces.specs.Forms.{Piece, Callees, cast_piece}
 use Rattle.lowered_pieces.specs.Functions.{all_in, called_code, direction_code, event_code, measure_of}
 use Rattle.lowered_pieces.specs.Mapped.{ends_with, fixed_end, optional_piece}
 use Rattle.lowered_pieces.specs.Lowering.{kit_of, is_lowered, piece}
@@ -62,7 +62,7 @@ pub record Made : Type 0 where
   pub awaits : ℕ → Option (List (Option Awaited))
   pub all_of : (p q : ℕ) → (tables p).of q ≡ of q
   pub all_await : (p q : ℕ) → (tables p).awaits q ≡ awaits q
-  -- directions of mappings; the place of each, which is no instance's; and which of them the body at a place calls
+  -- directions of mappings; the place of each, which is no instance's; and which of them the body at a place calls or asks
   pub direction : ℕ → Mapped
   pub way : ℕ → ℕ
   pub crosses : ℕ → ℕ → Bool
@@ -72,7 +72,7 @@ pub record Made : Type 0 where
 
 module _ (x : Made) where
   abbrev pub kit_for : ℕ → ℕ → Kit
-  kit_for q p = kit_of x.table (x.name q) x.number x.exception (x.size p)
+  kit_for q p = kit_of x.table (x.name q) x.number x.exception (x.size p) x.direction
 
   abbrev pub around_for : ℕ → List Sized → Callees
   around_for p ts = record {
@@ -118,7 +118,7 @@ module _ (x : Made) where
     pub code : code_of x.m q ≡ shape (kit_for q p) f.place
         (option_map (piece_for q p (typs xs)) (measure_of f.cycle f.measure)) (result_for q p f.last (piece_for q p (typs xs) f.body))
 
-  -- a direction may be entered with this value, as calls of it lead there: its body is an option of its clauses
+  -- a direction may be entered with this value, as calls and patterns lead there: its body is an option of its clauses
   pub record Turned (d : ℕ) (v : Value) : Type 0 where
     pub m : Direction
     pub found : slice_get x.s.directions d ≡ Some m
@@ -129,7 +129,7 @@ module _ (x : Made) where
     pub types : Types x.m.types (kit_for (x.direction d).function (x.way d))
     pub names : Names (kit_for (x.direction d).function (x.way d)) (slots_of x.m (x.direction d).function)
     pub slots : HasSlots (slots_of x.m (x.direction d).function) (code_of x.m (x.direction d).function)
-    pub known_taken : (x.tables (x.way d)).known (x.direction d).takes ≡ true
+    pub known_taken : (p : ℕ) → (x.tables p).known (x.direction d).takes ≡ true
     pub place : x.name (x.direction d).function (Given 0) (x.number (x.direction d).takes) ≡ 1
     pub sizes : (t : Num) (z : ℤ) → x.size (x.way d) t ≡ Some z → known [] t ≡ Some z
     pub truths : (c : Con) (b : Bool) → x.truth (x.way d) c ≡ Some b → known_truth [] c ≡ Some b
@@ -143,11 +143,14 @@ module _ (x : Made) where
     pub somes : (u : Value) → has_sizes x.table u (fixed_typ x.table typ) ≡ true
         → has_sizes x.table (V.Union 0 0 u) (fixed_typ x.table (option_typ typ)) ≡ true
     pub none : has_sizes x.table (V.Union 0 1 V.Unit) (fixed_typ x.table (option_typ typ)) ≡ true
-    pub known_option : (x.tables (x.way d)).known (fixed_typ x.table (option_typ typ)) ≡ true
-    -- nothing in it returns
-    pub stays : (n : ℕ) (active : Measures) (now : Now Item)
-        → Stays (meaning (checked x.table cases) (world_of x.s (calls x.s n) active [] (item (x.direction d).takes v ∷ [])) clauses now)
-    pub code : code_of x.m (x.direction d).function ≡ direction_code (kit_for (x.direction d).function (x.way d)) true m.place
+    pub known_option : (p : ℕ) → (x.tables p).known (fixed_typ x.table (option_typ typ)) ≡ true
+    pub result : m.result ≡ option_typ typ
+    pub gives : fixed_typ x.table (option_typ typ) ≡ (x.direction d).gives
+    -- nothing in it returns, however many directions it may ask inside one another
+    pub stays : (n : ℕ) (active : Measures) (rank : ℕ) (now : Now Item)
+        → Stays (meaning (checked x.table cases)
+        (asking x.s (calls x.s n) active (ways x.s (calls x.s n) active rank) [] (item (x.direction d).takes v ∷ [])) clauses now)
+    pub code : code_of x.m (x.direction d).function ≡ direction_code (kit_for (x.direction d).function (x.way d)) m.place
         (optional_piece x.table (kit_for (x.direction d).function (x.way d)) (fixed_typ x.table (option_typ typ)) (fixed_typ x.table typ)
         (piece_for (x.direction d).function (x.way d) ((x.direction d).takes ∷ []) clauses))
 
@@ -161,16 +164,20 @@ pub data Active (x : Made) : Measures → Here → ℕ → Type 0 where
   alone : {h : Here} {p : ℕ} → h.measure ≡ None → Active x [] h p
   further : {active : Measures} {h : Here} {p i : ℕ} {a : Instance} {f : Function} {place : TextPlace} → Active x active h p → Leads x p a i f
       → Active x active (J.called x.m h (x.function a.place) place) a.place
-  -- a direction takes over the measures of what calls it
+  -- a direction takes over the measures of what calls or asks it
   crossing : {active : Measures} {h : Here} {p d : ℕ} {place : TextPlace} → Active x active h p → x.crosses p d ≡ true
       → Active x active (J.called x.m h (x.direction d).function place) (x.way d)
   sunk : {active : Measures} {h : Here} {p i cycle n : ℕ} {a : Instance} {f : Function} {place : TextPlace} {measure : Core} → Active x active h p
       → Leads x p a i f → f.cycle ≡ Some cycle → f.measure ≡ Some measure
       → Active x ((cycle, n) ∷ active) (record (J.called x.m h (x.function a.place) place) { measure = Some (pos n) }) a.place
 
--- each direction that a body calls may be entered with each value of the type that it takes
+-- each direction that a body calls or asks may be entered with each value of the type that it takes
 abbrev pub AllTurned : Made → Type 0
 AllTurned x = (p d : ℕ) (v : Value) → x.crosses p d ≡ true → has_sizes x.table v (x.direction d).takes ≡ true → Turned x d v
+
+-- and takes no other
+abbrev pub AllTaken : Made → Type 0
+AllTaken x = (p d : ℕ) (v : Value) (y : Item) → x.crosses p d ≡ true → x.s.sizing.takes d v ≡ Some y → has_sizes x.table v (x.direction d).takes ≡ true
 
 -- a call finds the measure that is before it: so it is where functions of one cycle alone call one another
 abbrev pub Agrees : Made → Type 0
@@ -197,7 +204,7 @@ AllTick x = (p i : ℕ) (a : Instance) → LeadsTo (x.tables p) i a → slice_ge
 
 -- each call does what its function means, however many calls are inside one another
 abbrev pub CallsAnswer : Type 0
-CallsAnswer = (x : Made) → Agrees x → AllLowered x → AllTurned x → AllTick x
+CallsAnswer = (x : Made) → Agrees x → AllLowered x → AllTurned x → AllTaken x → AllTick x
     → (n : ℕ) (active : Measures) (h : Here) (p : ℕ) → Active x active h p → (place : TextPlace) (i : ℕ) (a : Instance) (vs : List Value) (now : Now Item)
     → LeadsTo (x.tables p) i a → now.ticks < n
     → AnswersFrom x.m x.lets x.s.hart (J.called x.m h (x.function a.place) place) (x.function a.place) vs now
@@ -205,7 +212,7 @@ CallsAnswer = (x : Made) → Agrees x → AllLowered x → AllTurned x → AllTi
 
 -- each event does what the function means that it enters
 abbrev pub EventsAnswer : Type 0
-EventsAnswer = (x : Made) → Agrees x → AllLowered x → AllTurned x → AllTick x → EventsLowered x
+EventsAnswer = (x : Made) → Agrees x → AllLowered x → AllTurned x → AllTaken x → AllTick x → EventsLowered x
     → (n i : ℕ) (a : Instance) (vs : List Value) (now : Now Item) → x.of a.place ≡ i → x.awaits a.place ≡ Some a.numbers → now.ticks < n
     → AnswersFrom x.m x.lets x.s.hart (J.alone (x.event a.place)) (x.event a.place) vs now
     (event_of x.s (calls x.s n) i (Some a) vs (slice_get x.s.functions i) now)

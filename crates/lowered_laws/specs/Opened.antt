@@ -1,5 +1,5 @@
 -- What initial values, top-level lets and the names that they bind come to by the code of their functions (Sail language manual, "Let-bindings").
-use Rattle.std.specs.Prelude.{◌≡◌, ◌<◌, ℕ, ℤ, true, List, [], ◌∷◌, Option, Some, None, slice_index_or, if◌then◌else◌}
+use Rattle.std.specs.Prelude.{◌≡◌, ◌<◌, ℕ, ℤ, true, false, List, [], ◌∷◌, Option, Some, None, slice_index_or, if◌then◌else◌}
 use Rattle.std.specs.Str.{bytes_eq}
 use Rattle.sail_base.specs.declared.place.Place.{Place as TextPlace}
 use Rattle.sail_types.specs.declared.numbers.Num.{Num}
@@ -46,7 +46,7 @@ name_hand g ss whole = arm_hand g.table (kit g) ss 1 3 (held_at 0 whole ∷ [])
 -- the code of a name of a top-level let, where the k-th opening gives the value: it stops where the pattern doesn't match
 abbrev pub NamesAnswer : Type 0
 NamesAnswer = (g : AtWork) (w : World Item) (place : TextPlace) (k : ℕ) (whole typ : Sized) (ss : List Step) (text : List ℕ) (v : Value)
-    → steps_fit g.size g.tables.reads ss ≡ true → ((t : Num) (z : ℤ) → g.size t ≡ Some z → known w.numbers t ≡ Some z)
+    → steps_fit g.size (λ d. false) g.tables.reads ss ≡ true → ((t : Num) (z : ℤ) → g.size t ≡ Some z → known w.numbers t ≡ Some z)
     → held_typ (name_hand g ss whole).names (name_hand g ss whole).named text ≡ Some typ → slice_index_or g.lets k V.Unit ≡ v → Sits g v whole
     → (sl : Slots) (now : Now Item) → HasAt (own_code g) 0 (event_code (kit g) place (named_piece g.table (kit g) [] place k whole (A.Flat 0 ss) text typ))
     → Same g body_depths [] 0 sl now

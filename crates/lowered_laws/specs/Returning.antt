@@ -10,7 +10,7 @@ use Rattle.sail_core.specs.Run as R
 use Rattle.sail_core.specs.Run.{Ended, Now, Run}
 use Rattle.sail_core.specs.declared.model.Direction.{Direction}
 use Rattle.sail_core.specs.Numbers.{Awaited, Givens}
-use Rattle.sail_core.specs.Program.{Measures, Setting, calls, world_of}
+use Rattle.sail_core.specs.Program.{Measures, Setting, asking, calls, ways}
 use Rattle.sail_core.specs.Making.{World}
 use Rattle.sail_core.specs.Meaning.{meaning}
 use Rattle.checked_meaning.specs.Checked.{Cases, checked}
@@ -45,10 +45,11 @@ abbrev pub BodiesStay : Type 0
 BodiesStay = (types : Types) (cases : Cases) (w : World Item) → QuietWorld w → (c : Core) → returns_nothing c ≡ true
     → Quiet (meaning (checked types cases) w c)
 
--- ---- models: nothing returns to the outside of a function, or of a direction whose body has no `return`
+-- ---- models: nothing returns to the outside of a function, or of a direction whose body has no `return`, however many are inside one another
 
 abbrev pub WorldsStay : Type 0
 WorldsStay = (types : Types) (s : Setting Item) (read : ℕ → Cases)
     → ((d : ℕ) (m : Direction) → slice_get s.directions d ≡ Some m
     → (s.sizing.direction d ≡ checked types (read d)) × (returns_nothing m.body ≡ true))
-    → (n : ℕ) (active : Measures) (nu : Givens) (xs : List Item) → QuietWorld (world_of s (calls s n) active nu xs)
+    → (n : ℕ) (active : Measures) (rank : ℕ) (nu : Givens) (xs : List Item)
+    → QuietWorld (asking s (calls s n) active (ways s (calls s n) active rank) nu xs)

@@ -1,6 +1,6 @@
 -- SIMULATION: what slots hold of a moment of a run of the core under constant sizes, and when code does what a run does (Sail language manual,
 -- "Expressions").
-use Rattle.std.specs.Prelude.{◌≡◌, ℕ, ℤ, pos, ◌+◌, ◌<◌, ◌≤◌, nat_lt, Bool, true, false, List, [], ◌∷◌, length, Option, Some, slice_get, slice_index_or}
+use Rattle.std.specs.Prelude.{◌≡◌, ℕ, suc, ℤ, pos, ◌+◌, ◌<◌, ◌≤◌, nat_lt, Bool, true, false, List, [], ◌∷◌, length, Option, Some, slice_get, slice_index_or}
 use Rattle.sail_base.specs.declared.place.Place.{Place as TextPlace}
 use Rattle.sail_types.specs.declared.table.Types.{Types as Table}
 use Rattle.sail_types.specs.declared.types.Typ.TheVariants as T
@@ -13,7 +13,7 @@ use Rattle.jib.specs.Values.{has}
 use Rattle.jib.specs.Jib.{Slots, Store, Outcome, Here, Runs, slots_of}
 use Rattle.jib.specs.Jib as J
 use Rattle.sail_core.specs.Run as R
-use Rattle.sail_core.specs.Run.{Local as Bound, Now, Ended, Run, tick, ◌then◌}
+use Rattle.sail_core.specs.Run.{Local as Bound, Now, Ended, Run}
 use Rattle.sail_core.specs.Numbers.{Instance, known, known_truth}
 use Rattle.sail_types.specs.declared.numbers.Num.{Num}
 use Rattle.sail_types.specs.declared.numbers.Con.{Con}
@@ -26,7 +26,7 @@ use Rattle.sized_meanings.specs.Present.{present, present_lead}
 use Rattle.checked_meaning.specs.Checked.{Cases, Noted, checked}
 use Rattle.checked_meaning.specs.Fits.{has_sizes}
 use Rattle.checked_meaning.specs.Items.{Item, fixed_typ, part_typ, typs}
-use Rattle.lowered_pieces.specs.Places.{Naming, Place, Raised, Given, Local, Number, Temp, Kit, Names, HasSlots}
+use Rattle.lowered_pieces.specs.Places.{Naming, Place, Raised, Given, Local, Number, Temp, Mapped, Kit, Names, HasSlots}
 use Rattle.lowered_laws.specs.Standing.{HasAt, Types, Told}
 use Rattle.lowered_pieces.specs.Tables.{Tables}
 use Rattle.lowered_laws.specs.Telling.{Tells}
@@ -80,13 +80,15 @@ pub record AtWork : Type 0 where
   pub exception : ℕ
   -- the numbers that are known of the function's variables
   pub size : Num → Option ℤ
+  -- directions of mappings
+  pub ways : ℕ → Mapped
   pub tables : Tables
   pub knows : Knows table tables.known
   pub had : (v : Value) (t : Sized) → has_sizes table v t ≡ true → tables.known t ≡ true → has m.types v (number t) ≡ true
   pub cases : Cases
   pub tells : Tells table tables cases
-  pub types : Types m.types (kit_of table name number exception size)
-  pub names : Names (kit_of table name number exception size) (slots_of m here.function)
+  pub types : Types m.types (kit_of table name number exception size ways)
+  pub names : Names (kit_of table name number exception size ways) (slots_of m here.function)
   pub slots : HasSlots (slots_of m here.function) (J.code_of m here.function)
   -- what it was called with
   pub arguments : List Item
@@ -94,7 +96,7 @@ pub record AtWork : Type 0 where
   pub depth : ℕ
 
 abbrev pub kit : AtWork → Kit
-kit g = kit_of g.table g.name g.number g.exception g.size
+kit g = kit_of g.table g.name g.number g.exception g.size g.ways
 
 -- its code
 abbrev pub own_code : AtWork → List Instruction
@@ -138,8 +140,11 @@ Writable d [] = Unit {0}
 Writable d (x ∷ xs) = (d.of x ≡ d.here) × Writable d xs
 
 -- a value that has the sizes of a type, which has a number
+abbrev pub IsOf : Table → (Sized → Bool) → Value → Sized → Type 0
+IsOf table known v t = (has_sizes table v t ≡ true) × (known t ≡ true)
+
 abbrev pub Sits : AtWork → Value → Sized → Type 0
-Sits g v t = (has_sizes g.table v t ≡ true) × (g.tables.known t ≡ true)
+Sits g v t = IsOf g.table g.tables.known v t
 
 -- so values that have the sizes of their types
 abbrev pub AllHad : Table → (Sized → Bool) → List Item → Type 0
@@ -166,6 +171,18 @@ AnswersFrom m lets hart here f vs now (R.Stops cause t) = J.Runs m lets hart her
 AnswersFrom m lets hart here f vs now (R.No t) = ⊥
 AnswersFrom m lets hart here f vs now (R.Returns v t) = ⊥
 AnswersFrom m lets hart here f vs now R.Stuck = Unit {0}
+
+-- a direction that is asked with a value: where it isn't stuck the value is one that it takes, and an option of its type comes of it
+abbrev pub AskedFrom : Table → (Sized → Bool) → Module → List Value → ℕ → Here → Mapped → Value → Now Item → Ended Item Item → Type 0
+AskedFrom table known m lets hart here way v now (R.Gives y t) = IsOf table known v way.takes × (y.typ ≡ way.gives) × IsOf table known y.val y.typ
+    × AnswersFrom m lets hart here way.function (v ∷ []) now (R.Gives y.val t)
+AskedFrom table known m lets hart here way v now (R.Throws w t) =
+    IsOf table known v way.takes × AnswersFrom m lets hart here way.function (v ∷ []) now (R.Throws w t)
+AskedFrom table known m lets hart here way v now (R.Stops cause t) =
+    IsOf table known v way.takes × AnswersFrom m lets hart here way.function (v ∷ []) now (R.Stops cause t)
+AskedFrom table known m lets hart here way v now (R.No t) = ⊥
+AskedFrom table known m lets hart here way v now (R.Returns w t) = ⊥
+AskedFrom table known m lets hart here way v now R.Stuck = Unit {0}
 
 module _ (g : AtWork) where
   -- the names in scope, the newest first, each in its slot
@@ -281,11 +298,17 @@ module _ (g : AtWork) where
   abbrev pub Answers : TextPlace → ℕ → List Value → Now Item → Ended Item Value → Type 0
   Answers place f vs now o = AnswersFrom g.m g.lets g.hart (J.called g.m g.here f place) f vs now o
 
+  abbrev pub Asked : TextPlace → Mapped → Value → Now Item → Ended Item Item → Type 0
+  Asked place way v now o = AskedFrom g.table g.tables.known g.m g.lets g.hart (J.called g.m g.here way.function place) way v now o
+
   -- so does each call with fewer ticks than the depth, where a call leads
   pub record CallsOk (callees : Callees) (w : World Item) : Type 0 where
     pub tells : (place : TextPlace) (f : ℕ) (x : Instance) (vs : List Value) (now : Now Item) → LeadsTo g.tables f x → now.ticks < g.depth
         → Answers place (callees.function x.place) vs now (w.call place f (Some x) vs now)
-    -- and each call of a direction that this function's body calls, with its tick
+    -- each call of a direction that this function's body calls, behind its tick
     pub crosses : (place : TextPlace) (d : ℕ) (v : Value) (now : Now Item) → callees.crosses d ≡ true
-        → has_sizes g.table v (callees.direction d).takes ≡ true → now.ticks < g.depth
-        → Answers place (callees.direction d).function (v ∷ []) now ((tick then λ t. w.enter d v) now)
+        → has_sizes g.table v (callees.direction d).takes ≡ true → suc now.ticks < g.depth
+        → Answers place (callees.direction d).function (v ∷ []) now (w.enter d v now)
+    -- and each direction that its patterns ask
+    pub sees : (place : TextPlace) (d : ℕ) (x : Item) (now : Now Item) → callees.crosses d ≡ true → now.ticks < g.depth
+        → Asked place (g.ways d) x.val now (w.way d x now)

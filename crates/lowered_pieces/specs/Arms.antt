@@ -35,11 +35,12 @@ use Rattle.value_indices.specs.declared.indices.Indices.TheOpen.{Indices-F}
 use Rattle.value_indices.specs.declared.indices.Reading.{Reading}
 use Rattle.size_values.specs.declared.constants.Picked.{Picked}
 use Rattle.sized_meanings.specs.Case.{Case}
-use Rattle.lowered_pieces.specs.Places.{Place, Raised, Given, Temp, Kit, from, to}
+use Rattle.lowered_pieces.specs.Places.{Place, Raised, Given, Temp, Mapped, Kit, from, to}
 use Rattle.lowered_pieces.specs.Chains.{by_case, many}
+use Rattle.lowered_pieces.specs.Moves.{move}
 use Rattle.lowered_pieces.specs.Nodes.{is_empty}
-use Rattle.lowered_pieces.specs.Forms.{Named, Stand, Coder, Tail, End, Piece, ends_of, ending, nothing_piece, seq_piece, said, caught_at, made_piece, source_make}
-use Rattle.lowered_pieces.specs.Forms.{inside_piece, kit_at, noter_of, all_notes}
+use Rattle.lowered_pieces.specs.Forms.{Named, Stand, Coder, Tail, End, Piece, ends_of, ending, nothing_piece, seq_piece, said, caught_at, made_piece}
+use Rattle.lowered_pieces.specs.Forms.{source_make, inside_piece, kit_at, noter_of, all_notes}
 
 abbrev pub constant_of : CoreLiteral → Literal
 constant_of C.Unit = L.Unit
@@ -286,9 +287,29 @@ module _ (types : Types) (kit : Kit) where
   at_hand (h ∷ hs) zero = h
   at_hand (h ∷ hs) (suc i) = at_hand hs i
 
+  -- a direction of a mapping is asked with the value at the type that it takes, which gives an option; no tick, and no measure that fails at a place
+  abbrev pub way_call : Mapped → ℕ → ℕ → Instruction
+  way_call m q throw = I.Call (record {
+    slot = kit.name (Temp q) (kit.number m.gives);
+    function = m.function;
+    arguments = from kit (Temp q) (kit.number m.takes) ∷ [];
+    on_throw = throw;
+    place = record { file = 0; line = 0; column = 0 };
+  })
+
+  abbrev pub seen_code : Mapped → Held → ℕ → ℕ → List Instruction
+  seen_code m h q throw = move kit (Temp q) (kit.number m.takes) h.place (kit.number h.typ) ∷ way_call m q throw ∷ []
+
+  -- what a step takes out, and the first place that is free then
   abbrev pub step_taken : Step → Hand → ℕ → Taken
   step_taken (S.Opens i head k) hand fail = head_taken (at_hand hand.values i) head k hand.free fail
+  step_taken (S.Sees i d) hand fail = taken [] (held_at hand.free (kit.ways d).gives ∷ []) (hand.free + 1)
   step_taken step hand fail = taken [] [] hand.free
+
+  -- its code: what a direction throws goes to the first label, a value that is another one to the second
+  abbrev pub step_code : Step → Hand → ℕ → ℕ → List Instruction
+  step_code (S.Sees i d) hand throw fail = seen_code (kit.ways d) (at_hand hand.values i) hand.free throw
+  step_code step hand throw fail = (step_taken step hand fail).code
 
   abbrev pub step_named : Step → Hand → Hand
   step_named (S.Names i name) hand = record hand {
@@ -300,9 +321,9 @@ module _ (types : Types) (kit : Kit) where
   abbrev pub step_hand : Step → Hand → ℕ → Hand
   step_hand step hand fail = with_taken (step_named step hand) (step_taken step hand fail)
 
-  abbrev pub steps_code : List Step → Hand → ℕ → List Instruction
-  steps_code [] hand fail = []
-  steps_code (s ∷ ss) hand fail = (step_taken s hand fail).code ++ steps_code ss (step_hand s hand fail) fail
+  abbrev pub steps_code : List Step → Hand → ℕ → ℕ → List Instruction
+  steps_code [] hand throw fail = []
+  steps_code (s ∷ ss) hand throw fail = step_code s hand throw fail ++ steps_code ss (step_hand s hand fail) throw fail
 
   abbrev pub steps_hand : List Step → Hand → ℕ → Hand
   steps_hand [] hand fail = hand
@@ -334,7 +355,7 @@ module _ (types : Types) (kit : Kit) where
 
   abbrev pub choice_code : List Indices → List Step → ℕ → Stand → Choice → ℕ → List Instruction
   choice_code gives ss q s c l =
-      steps_code ss (begun c.values q) s.on_no
+      steps_code ss (begun c.values q) s.on_throw s.on_no
       ++ arm_noted (kit_at kit s.depths) gives (c.values ++ (arm_hand ss q s.on_no c.values).named) (arm_hand ss q s.on_no c.values).free
 
   abbrev pub looks_code : List Indices → Matched → List Step → Stand → ℕ → List Instruction
@@ -431,7 +452,7 @@ module _ (types : Types) (kit : Kit) where
   abbrev pub clauses_piece : Names → List Sized → List Arm → List Piece → Piece
   clauses_piece names given arms bs = first_piece names (arguments given) arms bs fall_piece
 
--- ---- the arms that are lowered here: a mapping in a pattern isn't yet, nor is a name of a variable, where variables of a name are read at these types
+-- ---- the arms that are lowered here: those that ask these directions alone; a name of a variable isn't yet, where variables of a name are read at these types
 
 module _ (size : Num → Option ℤ) where
   -- a width that is written has to be known
@@ -447,11 +468,11 @@ module _ (size : Num → Option ℤ) where
   head_lowered (H.Cut ws) = widths_lowered ws
   head_lowered head = true
 
-  module _ (reads : List ℕ → List Sized) where
+  module _ (crosses : ℕ → Bool) (reads : List ℕ → List Sized) where
     abbrev pub step_fits : Step → Bool
     step_fits (S.Opens i head k) = head_lowered head
     step_fits (S.Names i name) = is_empty (reads name)
-    step_fits step = false
+    step_fits (S.Sees i d) = crosses d
 
     abbrev pub steps_fit : List Step → Bool
     steps_fit [] = true
@@ -467,13 +488,13 @@ module _ (size : Num → Option ℤ) where
 
   -- so where no variable is read
   abbrev pub step_lowered : Step → Bool
-  step_lowered s = step_fits (λ name. []) s
+  step_lowered s = step_fits (λ d. false) (λ name. []) s
 
   abbrev pub steps_lowered : List Step → Bool
-  steps_lowered ss = steps_fit (λ name. []) ss
+  steps_lowered ss = steps_fit (λ d. false) (λ name. []) ss
 
   abbrev pub arm_lowered : Arm → Bool
-  arm_lowered arm = arm_fits (λ name. []) arm
+  arm_lowered arm = arm_fits (λ d. false) (λ name. []) arm
 
   abbrev pub arms_lowered : List Arm → Bool
-  arms_lowered arms = arms_fit (λ name. []) arms
+  arms_lowered arms = arms_fit (λ d. false) (λ name. []) arms

@@ -15,6 +15,7 @@ use Rattle.call_arguments.specs.Placing.{variable_in}
 use Rattle.size_values.specs.declared.constants.Picked.{Picked}
 use Rattle.size_values.specs.declared.sized.Sized.{Sized, Sized-F, out-Sized}
 use Rattle.size_values.specs.declared.sized.Sized.TheOpen as Z
+use Rattle.size_values.specs.declared.sized.Sized.TheVariants as S
 use Rattle.jib.specs.declared.code.Literal.{Literal}
 use Rattle.jib.specs.declared.code.Literal.TheVariants as L
 use Rattle.jib.specs.declared.code.Source.{Source}
@@ -27,10 +28,11 @@ use Rattle.sail_types.specs.declared.table.Types.{Types}
 use Rattle.checked_meaning.specs.Items.{payload_typ}
 use Rattle.sized_meanings.specs.Case.{Case}
 use Rattle.sized_meanings.specs.Lead.{Lead}
-use Rattle.lowered_pieces.specs.Places.{Place, Raised, Local, Number, Temp, Kit, from, to}
+use Rattle.lowered_pieces.specs.Places.{Place, Raised, Local, Number, Temp, Kit, from, to, Mapped}
 use Rattle.sail_types.specs.declared.numbers.Num.{Num}
 use Rattle.sail_types.specs.declared.numbers.Con.{Con}
 use Rattle.lowered_pieces.specs.Chains.{by_case, many}
+use Rattle.lowered_pieces.specs.Keeping.{all_kept, give_one}
 use Rattle.lowered_pieces.specs.Moves.{move, kept_code, retype, sources}
 
 -- ---- pieces
@@ -137,14 +139,6 @@ abbrev pub place_of : List Named → List ℕ → Place
 place_of [] name = Raised
 place_of (x ∷ xs) name = if bytes_eq x.name name then x.place else place_of xs name
 
--- a direction of a mapping: the number of the function that calls of it enter, and the types of what it takes and of the option that it gives, with that
--- of the option's payload
-pub record Mapped : Type 0 where
-  pub function : ℕ
-  pub takes : Sized
-  pub gives : Sized
-  pub payload : Sized
-
 -- what is around a function: by the places of instances, the function of each and the type of its result; the opening that gives the value of a name
 -- of a top-level let; the numbers and truths that are known of this function's variables, and the types of what it is called with
 pub record Callees : Type 0 where
@@ -187,7 +181,7 @@ abbrev pub is_in : ℕ → List ℕ → Bool
 is_in x [] = false
 is_in x (y ∷ ys) = nat_eq x y || is_in x ys
 
--- ---- the types that a value may have: by the cases of the node that made it, unless the value gives a number by which the cases go
+-- ---- the types that a value may have: by the cases of the node that made it
 
 abbrev pub picked_apart : List ℕ → List Picked → Bool
 picked_apart xs [] = true
@@ -201,16 +195,22 @@ abbrev pub cases_ends : List Case → List End
 cases_ends [] = []
 cases_ends (c ∷ cs) = record { picked = c.picked; typ = c.gives } ∷ cases_ends cs
 
+-- one type, whatever the numbers are
+abbrev pub one_end : Sized → List End
+one_end t = record { picked = []; typ = t } ∷ []
+
+-- a node without cases makes no value, of which any type may be said
+abbrev pub first_end : List Case → List End
+first_end [] = one_end S.Unit
+first_end (c ∷ cs) = one_end c.gives
+
+-- that type; else by the numbers that are noted behind the value, where they are those by which its case was chosen
 abbrev pub ends_of : List Indices → List Case → List End
-ends_of gives cases = if cases_apart (all_notes gives) cases then cases_ends cases else []
+ends_of gives cases = if give_one cases then first_end cases else if all_kept gives cases then cases_ends cases else []
 
 abbrev pub has_ends : List End → Bool
 has_ends [] = false
 has_ends (e ∷ es) = true
-
--- one type, whatever the numbers are
-abbrev pub one_end : Sized → List End
-one_end t = record { picked = []; typ = t } ∷ []
 
 abbrev pub picked_by : Lead → List Picked
 picked_by x = x.picked

@@ -49,13 +49,9 @@ called_code kit place measure body =
 abbrev pub event_code : Kit → TextPlace → Piece → List Instruction
 event_code kit place body = answer_code kit place body 3
 
--- a direction of a mapping: calls of it take a tick
-abbrev pub tick_code : Bool → List Instruction
-tick_code true = I.Tick ∷ []
-tick_code is_called = []
-
-abbrev pub direction_code : Kit → Bool → TextPlace → Piece → List Instruction
-direction_code kit is_called place body = tick_code is_called ++ event_code kit place body
+-- a direction of a mapping: no tick, which calls of it take before they enter it
+abbrev pub direction_code : Kit → TextPlace → Piece → List Instruction
+direction_code kit place body = event_code kit place body
 
 -- ---- the measure of a function that is in a cycle
 

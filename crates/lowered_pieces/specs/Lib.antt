@@ -3,6 +3,7 @@ pub mod Chains
 pub mod Moves
 pub mod Tables
 pub mod Nodes
+pub mod Keeping
 pub mod Forms
 pub mod Arms
 pub mod Paths

@@ -24,7 +24,7 @@ use Rattle.checked_meaning.specs.Fits.{has_sizes}
 use Rattle.checked_meaning.specs.Items.{fixed_typ}
 use Rattle.jib.specs.declared.code.Operation.TheVariants as O
 use Rattle.jib.specs.declared.code.Source.TheVariants as R
-use Rattle.lowered_pieces.specs.Places.{Naming, Kit}
+use Rattle.lowered_pieces.specs.Places.{Naming, Mapped, Kit}
 use Rattle.lowered_pieces.specs.Tables.{Tables, cases_among, leads_to}
 use Rattle.lowered_pieces.specs.Nodes.{is_empty}
 use Rattle.lowered_pieces.specs.Arms.{arm_fits, arms_fit, constant_of, match_piece, let_piece, clauses_piece, try_piece}
@@ -48,8 +48,8 @@ abbrev pub fixed_number : Types → (Sized → ℕ) → Typ → ℕ
 fixed_number types number t = number (fixed_typ types t)
 
 -- what code is made with, where each type with constant sizes has a number in the table of the module
-abbrev pub kit_of : Types → Naming → (Sized → ℕ) → ℕ → (Num → Option ℤ) → Kit
-kit_of types name number exception size = record {
+abbrev pub kit_of : Types → Naming → (Sized → ℕ) → ℕ → (Num → Option ℤ) → (ℕ → Mapped) → Kit
+kit_of types name number exception size ways = record {
   name = name;
   unit = fixed_number types number T.Unit;
   truth = fixed_number types number T.Bool;
@@ -60,6 +60,7 @@ kit_of types name number exception size = record {
   truths = fixed_typ types T.Bool;
   depth = λ x. 0;
   size = size;
+  ways = ways;
 }
 
 module _ (types : Types) (kit : Kit) (number : Sized → ℕ) (callees : Callees) (tables : Tables) where
@@ -167,7 +168,7 @@ block_lowered callees tables [] [] = true
 block_lowered callees tables [] (value ∷ []) = value.ok
 block_lowered callees tables (S.Evaluate ∷ ss) (a ∷ parts) = a.ok && block_lowered callees tables ss parts
 block_lowered callees tables (S.Define place arm ∷ ss) (a ∷ parts) =
-    arm_fits callees.size tables.reads arm && (is_matched a && block_lowered callees tables ss parts)
+    arm_fits callees.size callees.crosses tables.reads arm && (is_matched a && block_lowered callees tables ss parts)
 block_lowered callees tables (S.Declare name written ∷ ss) (a ∷ parts) = a.ok && block_lowered callees tables ss parts
 block_lowered callees tables ss parts = false
 
@@ -242,11 +243,12 @@ kind_lowered types callees tables k (K.Assert text) (a ∷ []) = a.ok
 kind_lowered types callees tables k K.And (a ∷ b ∷ []) = a.ok && b.ok
 kind_lowered types callees tables k K.Or (a ∷ b ∷ []) = a.ok && b.ok
 kind_lowered types callees tables k K.When (a ∷ b ∷ []) = a.ok && b.ok
-kind_lowered types callees tables k (K.Let arm) (a ∷ b ∷ []) = arm_fits callees.size tables.reads arm && (is_matched a && b.ok)
-kind_lowered types callees tables k (K.Match arms shape) (a ∷ bodies) = is_matched a && (arms_fit callees.size tables.reads arms && all_lowered bodies)
+kind_lowered types callees tables k (K.Let arm) (a ∷ b ∷ []) = arm_fits callees.size callees.crosses tables.reads arm && (is_matched a && b.ok)
+kind_lowered types callees tables k (K.Match arms shape) (a ∷ bodies) =
+    is_matched a && (arms_fit callees.size callees.crosses tables.reads arms && all_lowered bodies)
 kind_lowered types callees tables k (K.Try arms shape) (a ∷ bodies) =
-    a.ok && (has_ends (ends_of (tables.gives k) (tables.cases k 0)) && (arms_fit callees.size tables.reads arms && all_lowered bodies))
-kind_lowered types callees tables k (K.Clauses arms) bodies = arms_fit callees.size tables.reads arms && all_lowered bodies
+    a.ok && (has_ends (ends_of (tables.gives k) (tables.cases k 0)) && (arms_fit callees.size callees.crosses tables.reads arms && all_lowered bodies))
+kind_lowered types callees tables k (K.Clauses arms) bodies = arms_fit callees.size callees.crosses tables.reads arms && all_lowered bodies
 kind_lowered types callees tables k (K.Call (F.Applies d)) (a ∷ []) = applied_lowered callees d a.piece.ends && a.ok
 kind_lowered types callees tables k kind parts = false
 

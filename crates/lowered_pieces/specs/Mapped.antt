@@ -11,12 +11,12 @@ use Rattle.jib.specs.declared.code.Operation.TheVariants as O
 use Rattle.jib.specs.declared.code.Instruction.{Instruction}
 use Rattle.jib.specs.declared.code.Instruction.TheVariants as I
 use Rattle.sized_meanings.specs.Case.{Case}
-use Rattle.lowered_pieces.specs.Places.{Temp, Kit, from, to}
+use Rattle.lowered_pieces.specs.Places.{Mapped, Temp, Kit, from, to}
 use Rattle.lowered_pieces.specs.Chains.{many}
 use Rattle.lowered_pieces.specs.Moves.{retype}
 use Rattle.lowered_pieces.specs.Arms.{else_piece}
 use Rattle.lowered_pieces.specs.Gathered.{only_end}
-use Rattle.lowered_pieces.specs.Forms.{Coder, End, Mapped, Piece, Stand, Tail, all_notes, answer_make, code_of, count_of, ends_of, made_code, one_end, said}
+use Rattle.lowered_pieces.specs.Forms.{Coder, End, Piece, Stand, Tail, all_notes, answer_make, code_of, count_of, ends_of, made_code, one_end, said}
 use Rattle.lowered_pieces.specs.Forms.{unit_source}
 
 module _ (kit : Kit) where
@@ -46,7 +46,7 @@ module _ (kit : Kit) where
     ends = [];
   }
 
-  -- ---- calls: the value comes to the type of the side that is taken, and the run stops where there is `None`
+  -- ---- calls: the value comes to the type of the side that is taken, the call takes its tick, and the run stops where there is `None`
 
   abbrev pub operand_moved : ℕ → Option Sized → Sized → List Instruction
   operand_moved n None t = []
@@ -64,7 +64,7 @@ module _ (kit : Kit) where
   -- labels: 2 of its own, those of the operand, those of the cases
   abbrev pub applied_code : TextPlace → Mapped → List Case → List Indices → Piece → Tail → Coder
   applied_code place m cases gives a tail s l =
-      code_of a s (l + 2) ++ (operand_moved s.temp (only_end a.ends) m.takes ++ direction_call place m s
+      code_of a s (l + 2) ++ (operand_moved s.temp (only_end a.ends) m.takes ++ I.Tick ∷ direction_call place m s
       ∷ I.Payload (kit.name (Temp s.temp) (kit.number m.payload)) (from kit (Temp s.temp) (kit.number m.gives)) 0 l
       ∷ I.Goto (l + 1) ∷ I.Label l ∷ I.Stop (MatchFailure place) ∷ I.Label (l + 1)
       ∷ made_code kit kit.number 1 (answer_make kit kit.number (kit.number m.payload)) cases gives tail s (l + 2 + count_of a))

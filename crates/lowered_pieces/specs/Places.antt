@@ -16,6 +16,13 @@ use Rattle.jib.specs.declared.code.Instruction.TheVariants as I
 abbrev pub Naming : Type 0
 Naming = Place → ℕ → ℕ
 
+-- a direction of a mapping: the number of its function, and the types of what it takes and of the option that it gives, with that of the option's payload
+pub record Mapped : Type 0 where
+  pub function : ℕ
+  pub takes : Sized
+  pub gives : Sized
+  pub payload : Sized
+
 -- what code is made with: the slots, the numbers of the types that every model has, and how deep the number of each variable stands
 pub record Kit : Type 0 where
   pub name : Naming
@@ -30,6 +37,8 @@ pub record Kit : Type 0 where
   pub depth : ℕ → ℕ
   -- the numbers that are known of the function's variables
   pub size : Num → Option ℤ
+  -- directions of mappings
+  pub ways : ℕ → Mapped
 
 abbrev pub from : Kit → Place → ℕ → Source
 from kit p t = R.Slot (kit.name p t)

@@ -23,8 +23,8 @@ use Rattle.jib.specs.Sorts.{sort_eq}
 use Rattle.jib.specs.Operands.{alike, compared, has_sort, some_comparable}
 use Rattle.jib.specs.Typing.{is_item, is_some_sort, is_sort, literal_typ, payload_typ, same, sort_at, sort_some}
 use Rattle.lowered_validity.specs.Typing.{payload_parts, payload_right, is_constant}
-use Rattle.std.proofs.Common.{Bool, List, None, Option, Some, [], ap, cond, false, if◌then◌else◌, length, map, refl, suc, sym, true, zero, ℕ, ℤ, ◌&&◌, ◌++◌}
-use Rattle.std.proofs.Common.{◌+◌, ◌-◌, ◌∙◌, ◌∷◌, ◌≡◌}
+use Rattle.std.proofs.Common.{Bool, List, None, Option, Some, [], ap, cond, false, if◌then◌else◌, length, map, not, refl, suc, sym, true, zero, ℕ, ℤ, ◌&&◌}
+use Rattle.std.proofs.Common.{◌++◌, ◌+◌, ◌-◌, ◌∙◌, ◌∷◌, ◌≡◌}
 use Rattle.std.specs.Prelude.{slice_get}
 use Rattle.checked_meaning.specs.Items.{fixed_typ}
 use Rattle.jib.specs.Typing.{literal_some}
@@ -37,17 +37,18 @@ use Rattle.lowered_pieces.specs.Arms.{Choice, Hand, Held, Matched, Taken, argume
 use Rattle.lowered_pieces.specs.Arms.{caught_piece, choice_code, choice_labels, choices, choices_at, constant_of, else_piece, failing, fall_piece}
 use Rattle.lowered_pieces.specs.Arms.{fields_code, fields_held, first_piece, given_held, hand_of, head_taken, held_at, in_hand, is_union, let_piece}
 use Rattle.lowered_pieces.specs.Arms.{looks_code, many_taken, match_piece, moved, one_taken, part_at, payload_step, payload_taken, picked_of, places_of}
-use Rattle.lowered_pieces.specs.Arms.{raised_piece, skipped, step_hand, steps_code, steps_hand, steps_in, stop_here, taken, takes_code, takes_held, test_code}
-use Rattle.lowered_pieces.specs.Arms.{throw_here, thrown_code, try_piece, tuple_noted, values_noted, vector_takes, with_taken}
+use Rattle.lowered_pieces.specs.Arms.{raised_piece, seen_code, skipped, step_hand, steps_code, steps_hand, steps_in, stop_here, takes_code, takes_held}
+use Rattle.lowered_pieces.specs.Arms.{test_code, throw_here, thrown_code, try_piece, tuple_noted, values_noted, vector_takes, way_call, with_taken}
+use Rattle.lowered_pieces.specs.Moves.{move}
 use Rattle.lowered_pieces.specs.Chains.{by_case}
 use Rattle.lowered_pieces.specs.Forms.{Callees, Depths, End, Piece, Stand, Tail, caught_at, ends_of, inside_piece, kit_at, noter_of, source_make}
 use Rattle.lowered_pieces.specs.Lowering.{kit_of}
-use Rattle.lowered_pieces.specs.Places.{Kit, Naming, Raised, Temp, from, to}
+use Rattle.lowered_pieces.specs.Places.{Kit, Mapped, Naming, Raised, Temp, from, to}
 use Rattle.lowered_pieces.specs.Tables.{Tables}
 use Rattle.lowered_types.specs.Table.{is_known, type_in}
 use Rattle.lowered_validity.proofs.Cases.{Arms, by_case_right}
-use Rattle.lowered_validity.proofs.Fitting.{Liked, both, copy_fits, like_constant, like_slot, liked_fits, one_fits, parts_of, payload_fits, slot_copy}
-use Rattle.lowered_validity.proofs.Fitting.{slot_typ, truth_fits}
+use Rattle.lowered_validity.proofs.Fitting.{Liked, both, call_fits, copy_fits, like_constant, like_slot, liked_fits, one_fits, parts_of, payload_fits}
+use Rattle.lowered_validity.proofs.Fitting.{move_right, slot_copy, slot_typ, truth_fits}
 use Rattle.lowered_validity.proofs.Flow.{alone, append, before, join, set_behind, set_first, set_next, tail_first, tail_more, tail_second}
 use Rattle.lowered_validity.proofs.Forms.{inside_right, seq_right}
 use Rattle.lowered_validity.proofs.Labels.{goto_fits, label_fits, label_meets, label_more, label_there, stop_fits, with_label}
@@ -57,8 +58,9 @@ use Rattle.lowered_validity.specs.Laws.{Numbered}
 use Rattle.lowered_validity.specs.Right.{Fits, Labels, Placed, Right, RightPiece, RightTail, Signs}
 use Rattle.lowered_validity.specs.Typing.{Typing, all_thrown, are_known, arm_right, arms_right, arms_types, cases_right, ends_right, fields_right, fields_typ}
 use Rattle.lowered_validity.specs.Typing.{gives_in, head_right, head_types, is_sourced, items_right, items_typ, matched_right, one_operand, picks_small}
-use Rattle.lowered_validity.specs.Typing.{shell, steps_right, typ_at_hand, works}
+use Rattle.lowered_validity.specs.Typing.{comes, sees_right, shell, steps_right, typ_at_hand, works}
 use Rattle.model_state.specs.declared.cause.Cause.{Cause}
+use Rattle.sail_base.specs.declared.place.Place.{Place as TextPlace}
 use Rattle.sail_core.specs.declared.patterns.Arm.{Arm}
 use Rattle.sail_core.specs.declared.patterns.Head.{Head}
 use Rattle.sail_core.specs.declared.patterns.Step.{Step}
@@ -132,9 +134,9 @@ module _ (m : Module) (f : Function) (n : ℕ) (types : Types) (kit : Kit) where
   fall_right out tail s l ot on ht = alone m f n out (I.Goto s.on_no) (goto_fits m f n s.on_no) (inr on)
 
 module _ (types : Types) (ss : List Sized) (callees : Callees) (m : Module) (f : Function) (n : ℕ) (name : Naming) (g : Signs)
-    (pl : Placed types ss (type_in ss) callees m f name g) (tables : Tables) (all : Numbered types tables ss) where
+    (pl : Placed types ss (type_in ss) callees m f n name g) (tables : Tables) (all : Numbered types tables ss) where
   abbrev K : Kit
-  K = kit_of types name (type_in ss) g.exception callees.size
+  K = kit_of types name (type_in ss) g.exception callees.size callees.direction
 
   abbrev number : Sized → ℕ
   number = type_in ss
@@ -428,13 +430,35 @@ module _ (types : Types) (ss : List Sized) (callees : Callees) (m : Module) (f :
   known_hand (x ∷ hs) zero h = h.0
   known_hand (x ∷ hs) (suc i) h = known_hand hs i h.1
 
-  abbrev StepsOk : Labels → List Step → Hand → ℕ → Type 0
-  StepsOk out steps hand fail = Ok out (steps_code types K steps hand fail) × Known (steps_hand types K steps hand fail).named
+  -- ---- directions of mappings, which a step asks
 
-  steps_are_right : (out : Labels) (fail : ℕ) → out fail ≡ true → (steps : List Step) (hand : Hand)
-      → steps_right types number callees tables g steps (held_types hand.values) ≡ true → Known hand.values → Known hand.named → StepsOk out steps hand fail
-  steps_are_right out fail o [] hand d kv kn = (tt, kn)
-  steps_are_right out fail o (P.Opens i head k ∷ steps) hand d kv kn =
+  is_impure : (b : Bool) → not b ≡ true → b ≡ false
+  is_impure true h = cc
+  is_impure false h = refl
+
+  seen_is_right : (out : Labels) (h : Held) (d q throw : ℕ) → out throw ≡ true → sees_right types number callees tables g d h.typ ≡ true
+      → Ok out (seen_code types K (callees.direction d) h q throw)
+  seen_is_right out h d q throw o w =
+      let x : Mapped = callees.direction d in
+      let comes_to : Bool = comes g (number h.typ) (number x.takes) in
+      let a = parts_of (not g.is_pure) (g.directions d && comes_to) w in
+      let b = parts_of (g.directions d) comes_to a.1 in
+      let nowhere : TextPlace = record { file = 0; line = 0; column = 0 } in
+      let call : Instruction = way_call types K x q throw in
+      append m f n out (move K (Temp q) (number x.takes) h.place (number h.typ) ∷ []) (call ∷ [])
+      (move_right types ss callees m f n name g pl out (Temp q) (number x.takes) h.place (number h.typ) b.1)
+      (alone m f n out call
+      (call_fits types ss callees m f n name g pl q (number x.gives) x.function throw nowhere (number x.takes ∷ []) (pl.directed d b.0)
+      (pl.is_pure ∙ is_impure g.is_pure a.0)) (inr o))
+
+  abbrev StepsOk : Labels → List Step → Hand → ℕ → ℕ → Type 0
+  StepsOk out steps hand throw fail = Ok out (steps_code types K steps hand throw fail) × Known (steps_hand types K steps hand fail).named
+
+  steps_are_right : (out : Labels) (throw fail : ℕ) → out throw ≡ true → out fail ≡ true → (steps : List Step) (hand : Hand)
+      → steps_right types number callees tables g steps (held_types hand.values) ≡ true → Known hand.values → Known hand.named
+      → StepsOk out steps hand throw fail
+  steps_are_right out throw fail ot o [] hand d kv kn = (tt, kn)
+  steps_are_right out throw fail ot o (P.Opens i head k ∷ steps) hand d kv kn =
       let h : Held = at_hand types K hand.values i in
       let ts : List Sized = held_types hand.values in
       let t : Sized = typ_at_hand types number callees tables g ts i in
@@ -449,24 +473,35 @@ module _ (types : Types) (ss : List Sized) (callees : Callees) (m : Module) (f :
       let next : Hand = with_taken hand x in
       let joined_types : held_types (hand.values ++ x.parts) ≡ ts ++ us = map-append (λ (y : Held). y.typ) hand.values x.parts ∙ ap (λ ys. ts ++ ys)
       same_types in
-      let further = steps_are_right out fail o steps next
+      let further = steps_are_right out throw fail ot o steps next
       (ap (λ ys. steps_right types number callees tables g steps ys) joined_types ∙ r.1)
       (known_append hand.values x.parts kv (known_held x.parts (ap (λ ys. are_known types number callees tables g ys) same_types ∙ r.0))) kn in
-      (append m f n out x.code (steps_code types K steps next fail) ok.0 further.0, further.1)
-  steps_are_right out fail o (P.Names i text ∷ steps) hand d kv kn =
+      (append m f n out x.code (steps_code types K steps next throw fail) ok.0 further.0, further.1)
+  steps_are_right out throw fail ot o (P.Names i text ∷ steps) hand d kv kn =
       let h : Held = at_hand types K hand.values i in
       let ts : List Sized = held_types hand.values in
       let rest : Bool = steps_right types number callees tables g steps (ts ++ []) in
       let next : Hand = step_hand types K (P.Names i text) hand fail in
       let joined_types : held_types (hand.values ++ []) ≡ ts ++ [] = map-append (λ (y : Held). y.typ) hand.values [] in
-      steps_are_right out fail o steps next (ap (λ ys. steps_right types number callees tables g steps ys) joined_types ∙ d)
+      steps_are_right out throw fail ot o steps next (ap (λ ys. steps_right types number callees tables g steps ys) joined_types ∙ d)
       (known_append hand.values [] kv tt) (known_append hand.named (h ∷ []) kn (known_hand hand.values i kv, tt))
-  steps_are_right out fail o (step ∷ steps) hand d kv kn =
+  steps_are_right out throw fail ot o (P.Sees i x ∷ steps) hand d kv kn =
+      let h : Held = at_hand types K hand.values i in
       let ts : List Sized = held_types hand.values in
-      let next : Hand = with_taken hand (taken [] [] hand.free) in
-      let joined_types : held_types (hand.values ++ []) ≡ ts ++ [] = map-append (λ (y : Held). y.typ) hand.values [] in
-      steps_are_right out fail o steps next (ap (λ ys. steps_right types number callees tables g steps ys) joined_types ∙ d)
-      (known_append hand.values [] kv tt) kn
+      let t : Sized = typ_at_hand types number callees tables g ts i in
+      let gives : Sized = (callees.direction x).gives in
+      let us : List Sized = gives ∷ [] in
+      let rest : Bool = steps_right types number callees tables g steps (ts ++ us) in
+      let q = parts_of (sees_right types number callees tables g x t) (are_known types number callees tables g us && rest) d in
+      let r = parts_of (are_known types number callees tables g us) rest q.1 in
+      let e : h.typ ≡ t = hand_typ hand.values i in
+      let parts : List Held = held_at hand.free gives ∷ [] in
+      let next : Hand = step_hand types K (P.Sees i x) hand fail in
+      let joined_types : held_types (hand.values ++ parts) ≡ ts ++ us = map-append (λ (y : Held). y.typ) hand.values parts in
+      let ok = seen_is_right out h x hand.free throw ot (ap (λ y. sees_right types number callees tables g x y) e ∙ q.0) in
+      let further = steps_are_right out throw fail ot o steps next
+      (ap (λ ys. steps_right types number callees tables g steps ys) joined_types ∙ r.1) (known_append hand.values parts kv (known_held parts r.0)) kn in
+      (append m f n out (seen_code types K (callees.direction x) h hand.free throw) (steps_code types K steps next throw fail) ok further.0, further.1)
 
   -- ---- numbers that are noted of them
 
@@ -491,41 +526,41 @@ module _ (types : Types) (ss : List Sized) (callees : Callees) (m : Module) (f :
 
   -- ---- arms
 
-  choice_right : (out : Labels) (gives : List Indices) (arm : Arm) (q : ℕ) (s : Stand) → out s.on_no ≡ true → (c : Choice)
+  choice_right : (out : Labels) (gives : List Indices) (arm : Arm) (q : ℕ) (s : Stand) → out s.on_throw ≡ true → out s.on_no ≡ true → (c : Choice)
       → arm_right types number callees tables g arm (held_types c.values) ≡ true → (l : ℕ) → Ok out (choice_code types K gives (steps_in arm) q s c l)
-  choice_right out gives arm q s on c d l =
+  choice_right out gives arm q s ot on c d l =
       let ts : List Sized = held_types c.values in
       let steps : List Step = steps_in arm in
       let r = parts_of (are_known types number callees tables g ts) (steps_right types number callees tables g steps ts) d in
       let known : Known c.values = known_held c.values r.0 in
-      let ok = steps_are_right out s.on_no on steps (begun types K c.values q) r.1 known tt in
+      let ok = steps_are_right out s.on_throw s.on_no ot on steps (begun types K c.values q) r.1 known tt in
       let hand : Hand = arm_hand types K steps q s.on_no c.values in
-      append m f n out (steps_code types K steps (begun types K c.values q) s.on_no)
+      append m f n out (steps_code types K steps (begun types K c.values q) s.on_throw s.on_no)
       (arm_noted (kit_at K s.depths) gives (c.values ++ hand.named) hand.free) ok.0
       (arm_noted_right out s.depths gives (c.values ++ hand.named) hand.free (known_append c.values hand.named known ok.1))
 
-  choices_right : (out : Labels) (gives : List Indices) (arm : Arm) (q p : ℕ) (s : Stand) → out s.on_no ≡ true → (es : List End)
+  choices_right : (out : Labels) (gives : List Indices) (arm : Arm) (q p : ℕ) (s : Stand) → out s.on_throw ≡ true → out s.on_no ≡ true → (es : List End)
       → ends_right types number callees tables g arm es ≡ true
       → Arms types ss callees m f n name g pl picked_of (choice_code types K gives (steps_in arm) q s) out (choices_at p es)
-  choices_right out gives arm q p s on [] d = tt
-  choices_right out gives arm q p s on (e ∷ es) d =
+  choices_right out gives arm q p s ot on [] d = tt
+  choices_right out gives arm q p s ot on (e ∷ es) d =
       let a : Bool = arm_right types number callees tables g arm (e.typ ∷ []) in
       let r = parts_of (picks_small e.picked) (a && ends_right types number callees tables g arm es) d in
       let w = parts_of a (ends_right types number callees tables g arm es) r.1 in
       let c : Choice = record { picked = e.picked; values = held_at p e.typ ∷ [] } in
-      ((r.0, choice_right out gives arm q s on c w.0), choices_right out gives arm q p s on es w.1)
+      ((r.0, choice_right out gives arm q s ot on c w.0), choices_right out gives arm q p s ot on es w.1)
 
   given_types : (i : ℕ) (ts : List Sized) → held_types (given_held i ts) ≡ ts
   given_types i [] = refl
   given_types i (t ∷ ts) = ap (λ us. t ∷ us) (given_types (i + 1) ts)
 
-  matched_choices : (out : Labels) (gives : List Indices) (arm : Arm) (q p : ℕ) (s : Stand) → out s.on_no ≡ true → (x : Matched)
+  matched_choices : (out : Labels) (gives : List Indices) (arm : Arm) (q p : ℕ) (s : Stand) → out s.on_throw ≡ true → out s.on_no ≡ true → (x : Matched)
       → matched_right types number callees tables g x arm ≡ true
       → Arms types ss callees m f n name g pl picked_of (choice_code types K gives (steps_in arm) q s) out (choices x p)
-  matched_choices out gives arm q p s on (in_hand es) d = choices_right out gives arm q p s on es d
-  matched_choices out gives arm q p s on (arguments ts) d =
+  matched_choices out gives arm q p s ot on (in_hand es) d = choices_right out gives arm q p s ot on es d
+  matched_choices out gives arm q p s ot on (arguments ts) d =
       let c : Choice = record { picked = []; values = given_held 0 ts } in
-      ((refl, choice_right out gives arm q s on c (ap (λ us. arm_right types number callees tables g arm us) (given_types 0 ts) ∙ d)), tt)
+      ((refl, choice_right out gives arm q s ot on c (ap (λ us. arm_right types number callees tables g arm us) (given_types 0 ts) ∙ d)), tt)
 
   moved_right : (out : Labels) (k : ℕ) (s : Stand) (tail : Tail) (ts : List Sized) → RightTail m f n out tail ts
       → RightTail m f n out (moved types K k s tail) ts
@@ -550,7 +585,7 @@ module _ (types : Types) (ss : List Sized) (callees : Callees) (m : Module) (f :
       append m f n out (looks_code types K gives x (steps_in arm) s l)
       (b.ended (moved types K hand.free s tail) (arm_stand types K hand s) (l + choice_labels x))
       (by_case_right types ss callees m f n name g pl picked_of s.depths q 0 (choice_code types K gives (steps_in arm) q s) out (choices x s.temp)
-      (matched_choices out gives arm q s.temp s on x d) l)
+      (matched_choices out gives arm q s.temp s ot on x d) l)
       (hb out (moved types K hand.free s tail) (arm_stand types K hand s) (l + choice_labels x) ot on (moved_right out hand.free s tail ts ht))
 
   -- ---- parts, with what is decided of them

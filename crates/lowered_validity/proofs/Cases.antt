@@ -29,9 +29,9 @@ use Rattle.lowered_validity.proofs.Labels.{goto_fits, label_fits, label_meets, l
 use Rattle.lowered_validity.proofs.Fitting.{both, Liked, like_constant, like_slot, liked_fits, parts_of, truth_fits}
 
 module _ (types : Types) (ss : List Sized) (callees : Callees) (m : Module) (f : Function) (n : ℕ) (name : Naming) (g : Signs)
-    (pl : Placed types ss (type_in ss) callees m f name g) where
+    (pl : Placed types ss (type_in ss) callees m f n name g) where
   abbrev K : Kit
-  K = kit_of types name (type_in ss) g.exception callees.size
+  K = kit_of types name (type_in ss) g.exception callees.size callees.direction
 
   abbrev Ok : Labels → List Instruction → Type 0
   Ok out c = Right m f n out c

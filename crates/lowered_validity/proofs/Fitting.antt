@@ -102,9 +102,9 @@ quiet_any (R.Register i) j h = h
 quiet_any a j h = refl
 
 module _ (types : Types) (ss : List Sized) (callees : Callees) (m : Module) (f : Function) (n : ℕ) (name : Naming) (g : Signs)
-    (pl : Placed types ss (type_in ss) callees m f name g) where
+    (pl : Placed types ss (type_in ss) callees m f n name g) where
   abbrev K : Kit
-  K = kit_of types name (type_in ss) g.exception callees.size
+  K = kit_of types name (type_in ss) g.exception callees.size callees.direction
 
   abbrev Fit : Instruction → Type 0
   Fit i = Fits m f n i
@@ -329,7 +329,7 @@ module _ (types : Types) (ss : List Sized) (callees : Callees) (m : Module) (f :
       begun : (j : ℕ) → 0 + j ≡ j
       begun j = omega arith
 
-  pub call_fits : (q t function l : ℕ) (place : TextPlace) (ts : List ℕ) → Entered m f function t ts → f.is_pure ≡ false
+  pub call_fits : (q t function l : ℕ) (place : TextPlace) (ts : List ℕ) → Entered m f n function t ts → f.is_pure ≡ false
       → Fit (I.Call (record { slot = name (Temp q) t; function = function; arguments = sources K q ts; on_throw = l; place = place }))
   call_fits q t function l place ts x no_pure u =
       let c : Call = record { slot = name (Temp q) t; function = function; arguments = sources K q ts; on_throw = l; place = place } in
@@ -343,7 +343,7 @@ module _ (types : Types) (ss : List Sized) (callees : Callees) (m : Module) (f :
       let pb : b ≡ true = same_is (slice_get f.slots (name (Temp q) t)) (Some x.called.result) t gets (ap Some x.gives) in
       let pd : d ≡ true = le_true x.called.cycle f.cycle x.cycle in
       let pe : e ≡ true = le_true x.called.lets f.lets x.lets in
-      let pi : i ≡ true = ap (λ z. z || nat_lt function n) x.ticks in (
+      let pi : i ≡ true = x.ticks in (
         ap (call_right m f n c) x.there ∙ both (a && b && d && e) i (both (a && b && d) e (both (a && b) d (both a b pa pb) pd) pe) pi,
         λ w. impossible (sym no_pure ∙ w),
       )

@@ -68,9 +68,9 @@ use Rattle.sized_nodes.specs.declared.trees.Case.{Case}
 use Rattle.value_indices.specs.declared.indices.Indices.{Indices}
 
 module _ (types : Types) (ss : List Sized) (callees : Callees) (m : Module) (f : Function) (n : ℕ) (name : Naming) (g : Signs)
-    (pl : Placed types ss (type_in ss) callees m f name g) (tables : Tables) (all : Numbered types tables ss) where
+    (pl : Placed types ss (type_in ss) callees m f n name g) (tables : Tables) (all : Numbered types tables ss) where
   abbrev K_ : Kit
-  K_ = kit_of types name (type_in ss) g.exception callees.size
+  K_ = kit_of types name (type_in ss) g.exception callees.size callees.direction
 
   abbrev number : Sized → ℕ
   number = type_in ss

@@ -229,9 +229,9 @@ none_meet : (b : List Instruction) → Meets no_label b no_label
 none_meet b k e = no_way e
 
 module _ (types : Types) (ss : List Sized) (callees : Callees) (m : Module) (f : Function) (n : ℕ) (name : Naming) (g : Signs)
-    (pl : Placed types ss (type_in ss) callees m f name g) (tables : Tables) (all : Numbered types tables ss) where
+    (pl : Placed types ss (type_in ss) callees m f n name g) (tables : Tables) (all : Numbered types tables ss) where
   abbrev K : Kit
-  K = kit_of types name (type_in ss) g.exception callees.size
+  K = kit_of types name (type_in ss) g.exception callees.size callees.direction
 
   abbrev number : Sized → ℕ
   number = type_in ss
@@ -317,13 +317,9 @@ module _ (types : Types) (ss : List Sized) (callees : Callees) (m : Module) (f :
         last = answer_ends place p 3;
       }
 
-  pub direction_right : (is_called : Bool) → (is_called ≡ true → f.is_pure ≡ false) → (place : TextPlace) (body : Core)
-      → is_value types ss callees tables g name body ≡ true → Ended m f n (direction_for types ss callees tables g name is_called place body)
-  direction_right true free place body d =
-      let c : List Instruction = value_for types ss callees tables g name place body in
-      let e : Ended m f n c = value_right place body d in
-      record { right = before m f n no_label I.Tick c (tick_fits m f n (free refl)) tt e.right; last = ends_next I.Tick c e.last }
-  direction_right false free place body d = value_right place body d
+  pub direction_right : (place : TextPlace) (body : Core) → is_value types ss callees tables g name body ≡ true
+      → Ended m f n (direction_for types ss callees tables g name place body)
+  direction_right place body d = value_right place body d
 
   -- ---- names of lets
 

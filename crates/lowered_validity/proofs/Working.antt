@@ -16,7 +16,6 @@ use Rattle.lowered_pieces.specs.Writes.{before as ahead, called, cell_code, cell
 use Rattle.lowered_pieces.specs.Writes.{final, given_piece, given_tail, held_piece, new_piece, one, put_step, register, renewed_code, renewed_tail}
 use Rattle.lowered_pieces.specs.Writes.{replaced_code, several, several_code, several_writing, spot_piece, store_code, taken_step, takes_in, takes_of}
 use Rattle.lowered_pieces.specs.Writes.{typed_code, typed_tail, variable, way_typ}
-use Rattle.lowered_pieces.specs.Forms.{Mapped}
 use Rattle.lowered_pieces.specs.Mapped.{applied_piece, direction_call, none_piece, operand_moved, optional_piece, some_piece, some_tail}
 use Rattle.lowered_validity.proofs.Flow.{before}
 use Rattle.lowered_validity.specs.Typing.{Typing, applies_right, all_come, all_right, has_last, is_put, is_taken, moves_to, no_value, optional_right, replaces}
@@ -46,7 +45,7 @@ use Rattle.lowered_pieces.specs.Forms.{picked_by, place_of, source_make, unit_pi
 use Rattle.lowered_pieces.specs.Lowering.{kit_of}
 use Rattle.lowered_pieces.specs.Moves.{retype, sources}
 use Rattle.lowered_pieces.specs.Paths.{path_piece, way_piece}
-use Rattle.lowered_pieces.specs.Places.{Kit, Naming, Temp, from, to}
+use Rattle.lowered_pieces.specs.Places.{Kit, Mapped, Naming, Temp, from, to}
 use Rattle.lowered_pieces.specs.Tables.{Tables}
 use Rattle.lowered_validity.proofs.Arms.{RightAll, else_right}
 use Rattle.lowered_validity.proofs.Cases.{Arms, by_case_right}
@@ -54,14 +53,13 @@ use Rattle.lowered_validity.proofs.Fitting.{Liked, Ordered, call_fits, in_order_
 use Rattle.lowered_validity.proofs.Fitting.{parts_of, payload_fits, retype_right, same_is, same_some, slot_typ, unit_is, work_fits}
 use Rattle.lowered_validity.proofs.Flow.{alone, append, more, set_first, set_next}
 use Rattle.lowered_validity.proofs.Forms.{Each, held, kept_codes, unit_right}
-use Rattle.lowered_validity.proofs.Labels.{goto_fits, label_fits, stop_fits}
+use Rattle.lowered_validity.proofs.Labels.{goto_fits, label_fits, stop_fits, tick_fits}
 use Rattle.lowered_validity.proofs.Makers.{Makes, answer_makes, cast_makes, made_right, numbers_same, source_makes, variable_makes, work_makes}
 use Rattle.lowered_validity.proofs.Notes.{notes_right}
 use Rattle.lowered_validity.specs.Laws.{Numbered}
 use Rattle.lowered_validity.specs.Right.{Entered, Fits, Labels, Placed, Right, RightPiece, RightTail, Signs}
 use Rattle.lowered_validity.specs.Typing.{cases_right, comes, gives_in, is_recast, is_lead, is_sourced, is_work, leads_right, numbers, one_operand, operands}
 use Rattle.lowered_validity.specs.Typing.{picks_small, row_ends, shell, state_right, works}
-use Rattle.sail_core.specs.Numbers.{known}
 use Rattle.sail_core.specs.declared.targets.Suffix.{Suffix}
 use Rattle.sail_core.specs.declared.targets.Way.{Way}
 use Rattle.sail_types.specs.declared.rows.Row.{Row}
@@ -72,9 +70,9 @@ use Rattle.sized_nodes.specs.declared.trees.Lead.{Lead}
 use Rattle.value_indices.specs.declared.indices.Indices.{Indices}
 
 module _ (types : Types) (ss : List Sized) (callees : Callees) (m : Module) (f : Function) (n : ℕ) (name : Naming) (g : Signs)
-    (pl : Placed types ss (type_in ss) callees m f name g) (tables : Tables) (all : Numbered types tables ss) where
+    (pl : Placed types ss (type_in ss) callees m f n name g) (tables : Tables) (all : Numbered types tables ss) where
   abbrev K : Kit
-  K = kit_of types name (type_in ss) g.exception callees.size
+  K = kit_of types name (type_in ss) g.exception callees.size callees.direction
 
   abbrev number : Sized → ℕ
   number = type_in ss
@@ -143,10 +141,10 @@ module _ (types : Types) (ss : List Sized) (callees : Callees) (m : Module) (f :
   -- ---- calls
 
   lead_entered : (p : ℕ) (ts : List Sized) (o : Option (List ℕ)) → g.parameters p ≡ o → is_lead types number callees tables g o ts ≡ true
-      → Entered m f (callees.function p) (number (callees.answer p)) (numbers_of K number ts)
+      → Entered m f n (callees.function p) (number (callees.answer p)) (numbers_of K number ts)
   lead_entered p ts None e d = impossible d
   lead_entered p ts (Some us) e d =
-      subst (λ x. Entered m f (callees.function p) (number (callees.answer p)) x)
+      subst (λ x. Entered m f n (callees.function p) (number (callees.answer p)) x)
       (sym (nats_same (numbers types number callees tables g ts) us d) ∙ numbers_same types ss callees m f n name g pl tables all ts) (pl.entered p us e)
 
   lead_arms : (out : Labels) (place : TextPlace) (cases : List Case) (gives : List Indices) (tail : Tail) (s : Stand) → f.is_pure ≡ false
@@ -634,9 +632,10 @@ module _ (types : Types) (ss : List Sized) (callees : Callees) (m : Module) (f :
       let t6 : List Instruction = I.Label (l + 1) ∷ c7 in
       let t4 : List Instruction = I.Label l ∷ i5 ∷ t6 in
       let t3 : List Instruction = I.Goto (l + 1) ∷ t4 in
-      append m f n out c1 (c2 ++ i1 ∷ i2 ∷ t3) (held types ss callees m f n name g pl tables all p t.types ha.1 out s (l + 2) ot on)
-      (append m f n out c2 (i1 ∷ i2 ∷ t3) (moved_operand out s.temp (only_end p.ends) x.takes
+      append m f n out c1 (c2 ++ I.Tick ∷ i1 ∷ i2 ∷ t3) (held types ss callees m f n name g pl tables all p t.types ha.1 out s (l + 2) ot on)
+      (append m f n out c2 (I.Tick ∷ i1 ∷ i2 ∷ t3) (moved_operand out s.temp (only_end p.ends) x.takes
       (ap (λ es. moves_to types number callees tables g (only_end es) x.takes) ha.0 ∙ q3.0))
+      (before m f n out I.Tick (i1 ∷ i2 ∷ t3) (tick_fits m f n free) tt
       (before m f n out i1 (i2 ∷ t3)
       (call_fits types ss callees m f n name g pl s.temp (number x.gives) x.function s.on_throw place (number x.takes ∷ []) (pl.directed d q1.0) free) (inr ot)
       (before m f n out i2 t3
@@ -648,7 +647,7 @@ module _ (types : Types) (ss : List Sized) (callees : Callees) (m : Module) (f :
       (before m f n out i5 t6 (stop_fits m f n (MatchFailure place) refl) tt
       (before m f n out (I.Label (l + 1)) c7 (label_fits m f n (l + 1)) tt
       (made_right types ss callees m f n name g pl tables all 1 comes_to (answer_make K number (number x.payload))
-      (answer_makes types ss callees m f n name g pl tables all (number x.payload)) cases q4.1 gives out tail s (l + 2 + count_of p) ht))))))))
+      (answer_makes types ss callees m f n name g pl tables all (number x.payload)) cases q4.1 gives out tail s (l + 2 + count_of p) ht)))))))))
 
   -- ---- an option of what a piece gives
 

@@ -46,9 +46,9 @@ pub record Numbered (types : Types) (tables : Tables) (ss : List Sized) : Type 0
 -- the code of a node of which it is decided that it has its types keeps the rules, wherever it stands in its function
 abbrev pub NodesAreRight : Type 0
 NodesAreRight = (types : Types) (ss : List Sized) (callees : Callees) (tables : Tables) (g : Signs) (m : Module) (f : Function) (n : ℕ) (name : Naming)
-    → Placed types ss (type_in ss) callees m f name g → Numbered types tables ss
+    → Placed types ss (type_in ss) callees m f n name g → Numbered types tables ss
     → (c : Core) → (typing types (type_in ss) callees tables g c).right ≡ true
-    → RightPiece m f n (piece types (kit_of types name (type_in ss) g.exception callees.size) (type_in ss) callees tables c)
+    → RightPiece m f n (piece types (kit_of types name (type_in ss) g.exception callees.size callees.direction) (type_in ss) callees tables c)
     (typing types (type_in ss) callees tables g c).types
 
 -- ---- functions
@@ -67,7 +67,7 @@ measure_right typed measure = all_in (λ c. (typed c).right) measure
 
 module _ (types : Types) (ss : List Sized) (callees : Callees) (tables : Tables) (g : Signs) (name : Naming) where
   abbrev kit : Kit
-  kit = kit_of types name (type_in ss) g.exception callees.size
+  kit = kit_of types name (type_in ss) g.exception callees.size callees.direction
 
   abbrev typed : Core → Typing
   typed = typing types (type_in ss) callees tables g
@@ -92,9 +92,9 @@ module _ (types : Types) (ss : List Sized) (callees : Callees) (tables : Tables)
   abbrev pub value_for : TextPlace → Core → List Instruction
   value_for place value = event_code kit place (code_for value)
 
-  -- a direction of a mapping, which calls may enter or not
-  abbrev pub direction_for : Bool → TextPlace → Core → List Instruction
-  direction_for is_called place body = direction_code kit is_called place (code_for body)
+  -- a direction of a mapping
+  abbrev pub direction_for : TextPlace → Core → List Instruction
+  direction_for place body = direction_code kit place (code_for body)
 
   -- a name of the let whose value the k-th opening gives
   abbrev pub name_for : List Indices → TextPlace → ℕ → Sized → Arm → List ℕ → Sized → List Instruction
@@ -109,31 +109,31 @@ module _ (types : Types) (ss : List Sized) (callees : Callees) (tables : Tables)
 
 abbrev pub CalledAreRight : Type 0
 CalledAreRight = (types : Types) (ss : List Sized) (callees : Callees) (tables : Tables) (g : Signs) (m : Module) (f : Function) (n : ℕ) (name : Naming)
-    → Placed types ss (type_in ss) callees m f name g → Numbered types tables ss → f.is_pure ≡ false
+    → Placed types ss (type_in ss) callees m f n name g → Numbered types tables ss → f.is_pure ≡ false
     → (place : TextPlace) (measure : Option Core) (last : ℕ) (body : Core) → is_typed types ss callees tables g name measure last body ≡ true
     → Ended m f n (called_for types ss callees tables g name place measure last body)
 
 abbrev pub EventsAreRight : Type 0
 EventsAreRight = (types : Types) (ss : List Sized) (callees : Callees) (tables : Tables) (g : Signs) (m : Module) (f : Function) (n : ℕ) (name : Naming)
-    → Placed types ss (type_in ss) callees m f name g → Numbered types tables ss
+    → Placed types ss (type_in ss) callees m f n name g → Numbered types tables ss
     → (place : TextPlace) (measure : Option Core) (last : ℕ) (body : Core) → is_typed types ss callees tables g name measure last body ≡ true
     → Ended m f n (event_for types ss callees tables g name place last body)
 
 abbrev pub ValuesAreRight : Type 0
 ValuesAreRight = (types : Types) (ss : List Sized) (callees : Callees) (tables : Tables) (g : Signs) (m : Module) (f : Function) (n : ℕ) (name : Naming)
-    → Placed types ss (type_in ss) callees m f name g → Numbered types tables ss
+    → Placed types ss (type_in ss) callees m f n name g → Numbered types tables ss
     → (place : TextPlace) (value : Core) → is_value types ss callees tables g name value ≡ true
     → Ended m f n (value_for types ss callees tables g name place value)
 
 abbrev pub DirectionsAreRight : Type 0
 DirectionsAreRight = (types : Types) (ss : List Sized) (callees : Callees) (tables : Tables) (g : Signs) (m : Module) (f : Function) (n : ℕ) (name : Naming)
-    → Placed types ss (type_in ss) callees m f name g → Numbered types tables ss → (is_called : Bool) → (is_called ≡ true → f.is_pure ≡ false)
+    → Placed types ss (type_in ss) callees m f n name g → Numbered types tables ss
     → (place : TextPlace) (body : Core) → is_value types ss callees tables g name body ≡ true
-    → Ended m f n (direction_for types ss callees tables g name is_called place body)
+    → Ended m f n (direction_for types ss callees tables g name place body)
 
 abbrev pub NamesAreRight : Type 0
 NamesAreRight = (types : Types) (ss : List Sized) (callees : Callees) (tables : Tables) (g : Signs) (m : Module) (f : Function) (n : ℕ) (name : Naming)
-    → Placed types ss (type_in ss) callees m f name g → Numbered types tables ss
+    → Placed types ss (type_in ss) callees m f n name g → Numbered types tables ss
     → (gives : List Indices) (place : TextPlace) (k : ℕ) (t : Sized) (arm : Arm) (text : List ℕ) (u : Sized)
     → is_named types ss callees tables g name k t arm u ≡ true → Ended m f n (name_for types ss callees tables g name gives place k t arm text u)
 

@@ -1,6 +1,6 @@
 -- Code that keeps the rules of a valid module, wherever it stands in a function: where its slots are there, its instructions have their types, and each
 -- goes to labels that are set further on, or directly before a tick.
-use Rattle.std.specs.Prelude.{◌≡◌, ◌⊎◌, ℕ, ◌<◌, ◌≤◌, nat_eq, Bool, true, ◌||◌, List, [], ◌∷◌, length, Option, Some, None, slice_get}
+use Rattle.std.specs.Prelude.{◌≡◌, ◌⊎◌, ℕ, ◌<◌, ◌≤◌, nat_eq, nat_lt, Bool, true, ◌||◌, List, [], ◌∷◌, length, Option, Some, None, slice_get}
 use Rattle.sail_types.specs.declared.table.Types.{Types}
 use Rattle.size_values.specs.declared.sized.Sized.{Sized}
 use Rattle.jib.specs.declared.types.ValueType.{ValueType}
@@ -60,7 +60,7 @@ module _ (m : Module) (f : Function) (n : ℕ) where
 -- ---- what is around the code of a function
 
 -- the types of the module's table and of exceptions, of registers, of the openings that the function may read, and of its result; whether it is pure;
--- the parameters of what is called, by the places of instances, where a call of it may stand in this function; and the directions of mappings of which one may
+-- the parameters of what is called, by the places of instances, where a call of it may stand in this function; and the directions of mappings that may be asked
 pub record Signs : Type 0 where
   pub table : List ValueType
   pub exception : ℕ
@@ -71,28 +71,28 @@ pub record Signs : Type 0 where
   pub parameters : ℕ → Option (List ℕ)
   pub directions : ℕ → Bool
 
--- what a call enters: of the same cycle or a lower one, and with a tick
-pub record Entered (m : Module) (f : Function) (function result : ℕ) (parameters : List ℕ) : Type 0 where
+-- what a call enters from the n-th function: of the same cycle or a lower one, and with a tick or of a lower number
+pub record Entered (m : Module) (f : Function) (n function result : ℕ) (parameters : List ℕ) : Type 0 where
   pub called : Function
   pub there : slice_get m.functions function ≡ Some called
   pub takes : called.parameters ≡ parameters
   pub gives : called.result ≡ result
   pub cycle : called.cycle ≤ f.cycle
   pub lets : called.lets ≤ f.lets
-  pub ticks : is_tick (slice_get called.code 0) ≡ true
+  pub ticks : (is_tick (slice_get called.code 0) || nat_lt function n) ≡ true
 
--- a function of a module, with this numbering of its slots and of the types of the table
-pub record Placed (types : Types) (ss : List Sized) (number : Sized → ℕ) (callees : Callees) (m : Module) (f : Function) (name : Naming) (g : Signs) : Type 0
-  where
-    pub named : (p : Place) (t : ℕ) → name p t < length f.slots → slice_get f.slots (name p t) ≡ Some t
-    pub table : m.types ≡ g.table
-    pub stands : TypesStand types ss g.table
-    pub basic : Basic g.table (kit_of types name number g.exception callees.size)
-    pub exception : m.exception ≡ g.exception
-    pub registers : m.registers ≡ g.registers
-    pub lets : (k t : ℕ) → slice_get g.lets k ≡ Some t → let_typ m f k ≡ Some t
-    pub result : f.result ≡ g.result
-    pub is_pure : f.is_pure ≡ g.is_pure
-    pub entered : (p : ℕ) (ts : List ℕ) → g.parameters p ≡ Some ts → Entered m f (callees.function p) (number (callees.answer p)) ts
-    pub directed : (d : ℕ) → g.directions d ≡ true
-        → Entered m f (callees.direction d).function (number (callees.direction d).gives) (number (callees.direction d).takes ∷ [])
+-- the n-th function of a module, with this numbering of its slots and of the types of the table
+pub record Placed (types : Types) (ss : List Sized) (number : Sized → ℕ) (callees : Callees) (m : Module) (f : Function) (n : ℕ) (name : Naming)
+    (g : Signs) : Type 0 where
+  pub named : (p : Place) (t : ℕ) → name p t < length f.slots → slice_get f.slots (name p t) ≡ Some t
+  pub table : m.types ≡ g.table
+  pub stands : TypesStand types ss g.table
+  pub basic : Basic g.table (kit_of types name number g.exception callees.size callees.direction)
+  pub exception : m.exception ≡ g.exception
+  pub registers : m.registers ≡ g.registers
+  pub lets : (k t : ℕ) → slice_get g.lets k ≡ Some t → let_typ m f k ≡ Some t
+  pub result : f.result ≡ g.result
+  pub is_pure : f.is_pure ≡ g.is_pure
+  pub entered : (p : ℕ) (ts : List ℕ) → g.parameters p ≡ Some ts → Entered m f n (callees.function p) (number (callees.answer p)) ts
+  pub directed : (d : ℕ) → g.directions d ≡ true
+      → Entered m f n (callees.direction d).function (number (callees.direction d).gives) (number (callees.direction d).takes ∷ [])

@@ -44,7 +44,8 @@ use Rattle.jib.specs.declared.code.Module.{Module}
 use Rattle.jib.specs.Typing.{literal_some, payload_typ, same, sort_at}
 use Rattle.jib.specs.Operands.{alike, operation_typed, some_comparable}
 use Rattle.lowered_pieces.specs.Tables.{Tables}
-use Rattle.lowered_pieces.specs.Forms.{Callees, End, Mapped, Order, dead, ends_of, in_fields, in_order, is_never, one_end, set_fields}
+use Rattle.lowered_pieces.specs.Places.{Mapped}
+use Rattle.lowered_pieces.specs.Forms.{Callees, End, Order, dead, ends_of, in_fields, in_order, is_never, one_end, set_fields}
 use Rattle.lowered_pieces.specs.Arms.{Matched, arguments, constant_of, cut_widths, in_hand, is_union, part_width, steps_in, word_width}
 use Rattle.lowered_pieces.specs.Gathered.{only_end}
 use Rattle.lowered_pieces.specs.Paths.{path_ends}
@@ -404,10 +405,16 @@ module _ (types : Types) (number : Sized → ℕ) (callees : Callees) (tables : 
 
   abbrev pub step_types : Step → List Sized → List Sized
   step_types (P.Opens i head k) ts = head_types (typ_at_hand ts i) head k
+  step_types (P.Sees i d) ts = (callees.direction d).gives ∷ []
   step_types step ts = []
+
+  -- a value comes to the type that a direction takes, which may be asked here
+  abbrev pub sees_right : ℕ → Sized → Bool
+  sees_right d t = not g.is_pure && (g.directions d && comes g (number t) (number (callees.direction d).takes))
 
   abbrev pub step_right : Step → List Sized → Bool
   step_right (P.Opens i head k) ts = head_right (typ_at_hand ts i) head k
+  step_right (P.Sees i d) ts = sees_right d (typ_at_hand ts i)
   step_right step ts = true
 
   abbrev pub are_known : List Sized → Bool

@@ -13,8 +13,7 @@ value : ValuesAreRight
 value types ss callees tables g m f n name pl all place tree d = value_right types ss callees m f n name g pl tables all place tree d
 
 direction : DirectionsAreRight
-direction types ss callees tables g m f n name pl all is_called free place body d =
-    direction_right types ss callees m f n name g pl tables all is_called free place body d
+direction types ss callees tables g m f n name pl all place body d = direction_right types ss callees m f n name g pl tables all place body d
 
 named : NamesAreRight
 named types ss callees tables g m f n name pl all gives place k t arm text u d =
