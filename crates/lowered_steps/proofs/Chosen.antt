@@ -37,21 +37,21 @@ module _ (setting : Setting) (s : Standing) (steps : List Step) (q : ℕ) (value
   chosen_hand = steps_done ∙ ap (λ (h : Hand). steps_hand types (kit_for setting (λ p t. 0)) steps h s.on_no) begins_so
 
   pub chosen_code : (gives : List Indices) (old mid new : Coding) (noted : List HeldValue) → map held_of noted ≡ held ++ map held_of done.named
-      → Emits old mid (λ name l. steps_code types (kit name) steps (hand_of begun) s.on_no) no_labels
+      → Emits old mid (λ name l. steps_code types (kit name) steps (hand_of begun) s.on_throw s.on_no) no_labels
       → Emits mid new (λ name l. arm_noted (kit_at (kit name) (depths_of s.levels.now)) gives (map held_of noted) done.free) no_labels
       → Emits old new (λ name. choice_code types (kit name) gives steps q (stand_of s) (choice_of [] held)) no_labels
   chosen_code gives old mid new noted all x y =
       emits_as old new
-      (λ name l. steps_code types (kit name) steps (hand_of begun) s.on_no
+      (λ name l. steps_code types (kit name) steps (hand_of begun) s.on_throw s.on_no
       ++ arm_noted (kit_at (kit name) (depths_of s.levels.now)) gives (map held_of noted) done.free)
       (λ name. choice_code types (kit name) gives steps q (stand_of s) (choice_of [] held)) no_labels no_labels
       (λ name.
-      ap (λ (h : Hand). steps_code types (kit name) steps h s.on_no
+      ap (λ (h : Hand). steps_code types (kit name) steps h s.on_throw s.on_no
       ++ arm_noted (kit_at (kit name) (depths_of s.levels.now)) gives (map held_of noted) done.free) begins_so
-      ∙ ap (λ (hs : List Held). steps_code types (kit name) steps (begun_with held q) s.on_no
+      ∙ ap (λ (hs : List Held). steps_code types (kit name) steps (begun_with held q) s.on_throw s.on_no
       ++ arm_noted (kit_at (kit name) (depths_of s.levels.now)) gives hs done.free) all
-      ∙ ap (λ (h : Hand). steps_code types (kit name) steps (begun_with held q) s.on_no
+      ∙ ap (λ (h : Hand). steps_code types (kit name) steps (begun_with held q) s.on_throw s.on_no
       ++ arm_noted (kit_at (kit name) (depths_of s.levels.now)) gives (held ++ h.named) h.free)
       (chosen_hand ∙ arm_same types setting (λ p t. 0) name steps q s.on_no held)) (λ name. refl)
-      (emits_next old mid new (λ name. steps_code types (kit name) steps (hand_of begun) s.on_no)
+      (emits_next old mid new (λ name. steps_code types (kit name) steps (hand_of begun) s.on_throw s.on_no)
       (λ name. arm_noted (kit_at (kit name) (depths_of s.levels.now)) gives (map held_of noted) done.free) x y)

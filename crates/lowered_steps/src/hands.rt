@@ -3,23 +3,24 @@ ghost use Rattle.std.specs.Prelude.{◌≡◌, ◌+◌, [], ◌∷◌, ◌++◌,
 ghost use Rattle.sized_meanings.specs.Present.{gives_at};
 ghost use Rattle.lowered_pieces.specs.Arms.{arm_hand, at_hand, choice_code, choice_labels, choices, choices_at};
 ghost use Rattle.lowered_pieces.specs.Arms.{first_hand, given_held, hand_of, held_at, looks_code, picked_of, places_of};
-ghost use Rattle.lowered_pieces.specs.Arms.{step_hand, step_taken, steps_code, steps_hand, thrown_code};
+ghost use Rattle.lowered_pieces.specs.Arms.{seen_code, step_code, step_hand, steps_code, steps_hand, thrown_code};
 ghost use Rattle.lowered_pieces.specs.Chains.{by_case, many};
 ghost use Rattle.lowered_pieces.specs.Forms.{cases_ends, kit_at};
 ghost use Rattle.lowered_pieces.specs.Emitted.{Emits, no_labels};
 ghost use Rattle.lowered_pieces.specs.Frames.{ArmsPut};
 ghost use Rattle.lowered_steps.specs.Hands as spec;
-ghost use Rattle.lowered_steps.specs.Setting.{kit_for, nodes_in};
+ghost use Rattle.lowered_steps.specs.Setting.{kit_for, mapped_of, nodes_in, ways_for};
 ghost use Rattle.lowered_steps.specs.Stands.{depths_of, stand_of};
 
 use crate::chains::{begin_arm, begin_arms, end_arm, end_arms};
 use crate::heads::put_head;
+use crate::moves::put_move;
 use crate::notes::put_arm_notes;
-use crate::setting::{Setting, further};
+use crate::setting::{Mapped, Setting, further};
 use crate::stands::{Named, Stand};
 use lowered_pieces::Coding;
 use lowered_slots::Place;
-use sail_base::Items;
+use sail_base::{Items, Place as TextPlace};
 use sail_core::{Giver, Step};
 use size_values::{Sized, copy_sized};
 use sized_nodes::Case;
@@ -98,6 +99,89 @@ fn value_at(
     }
 }
 
+/// A direction of a mapping is asked with a value: the option that it gives goes to a place. What it throws goes to a label. It fails where memory is
+/// wanting.
+fn put_way(
+    alloc: Global,
+    coding: &mut Coding,
+    setting: &Setting<'_>,
+    mapped: &Mapped,
+    value: &Held,
+    free: u32,
+    throw: u32,
+) -> Result<(), AllocError>
+    ensures { OnOk result (Emits coding.old coding.new (λ name first.
+        seen_code setting.now.types.now (kit_for setting.now name) (mapped_of mapped.now) (spec.held_of value.now) free throw) no_labels) }
+{
+    let place = Place::Temp(free);
+    let takes = setting.number(&mapped.takes)?;
+    let gives = setting.number(&mapped.gives)?;
+    let from = setting.number(&value.typ)?;
+    put_move(alloc, coding, setting, place, takes, value.place, from)?;
+    let mut arguments = Items::new(alloc);
+    arguments.push(coding.source(place, takes)?)?;
+    let nowhere = TextPlace {
+        file: 0,
+        line: 0,
+        column: 0,
+    };
+    coding.put_call(place, gives, mapped.function, arguments, throw, nowhere)
+}
+
+/// So, and the option comes behind the values in hand, in the first place that is free. The next one. It fails where memory is wanting.
+fn put_asked(
+    alloc: Global,
+    coding: &mut Coding,
+    setting: &Setting<'_>,
+    mapped: &Mapped,
+    value: &Held,
+    free: u32,
+    throw: u32,
+    values: &mut Items<Held>,
+) -> Result<u32, AllocError>
+    ensures code { OnOk result (Emits coding.old coding.new (λ name first.
+        seen_code setting.now.types.now (kit_for setting.now name) (mapped_of mapped.now) (spec.held_of value.now) free throw) no_labels) }
+    ensures hand { OnOk result (map spec.held_of values.new ≡ map spec.held_of values.old ++ held_at free mapped.now.gives ∷ []) }
+    ensures next { IfOk result (λ next. next ≡ free + 1) }
+{
+    put_way(alloc, coding, setting, mapped, value, free, throw)?;
+    values.push(Held {
+        place: Place::Temp(free),
+        typ: copy_sized(alloc, &mapped.gives)?,
+    })?;
+    further(free, 1)
+}
+
+/// So of the direction of a number. It fails where memory is wanting.
+fn put_seen(
+    alloc: Global,
+    coding: &mut Coding,
+    setting: &Setting<'_>,
+    direction: u32,
+    value: &Held,
+    free: u32,
+    throw: u32,
+    values: &mut Items<Held>,
+) -> Result<u32, AllocError>
+    ensures code { OnOk result (Emits coding.old coding.new (λ name first.
+        seen_code setting.now.types.now (kit_for setting.now name) (ways_for setting.now direction) (spec.held_of value.now) free throw) no_labels) }
+    ensures hand { OnOk result (map spec.held_of values.new ≡ map spec.held_of values.old ++ held_at free (ways_for setting.now direction).gives ∷ []) }
+    ensures next { IfOk result (λ next. next ≡ free + 1) }
+{
+    match setting.direction(direction) {
+        Some(mapped) => put_asked(alloc, coding, setting, mapped, value, free, throw, values),
+        None => {
+            let none = Mapped {
+                function: 0,
+                takes: Sized::Never,
+                gives: Sized::Never,
+                payload: Sized::Never,
+            };
+            put_asked(alloc, coding, setting, &none, value, free, throw, values)
+        }
+    }
+}
+
 /// One step of an arm. It fails where memory is wanting.
 fn put_step<'a>(
     alloc: Global,
@@ -105,10 +189,11 @@ fn put_step<'a>(
     setting: &Setting<'_>,
     step: &'a Step,
     hand: &mut Hand<'a>,
+    throw: u32,
     fail: u32,
 ) -> Result<(), AllocError>
     ensures code { OnOk result (Emits coding.old coding.new
-        (λ name first. (step_taken setting.now.types.now (kit_for setting.now name) step.now (spec.hand_of hand.old) fail).code) no_labels) }
+        (λ name first. step_code setting.now.types.now (kit_for setting.now name) step.now (spec.hand_of hand.old) throw fail) no_labels) }
     ensures hand { OnOk result (spec.hand_of hand.new ≡
         step_hand setting.now.types.now (kit_for setting.now (λ place typ. 0)) step.now (spec.hand_of hand.old) fail) }
 {
@@ -129,7 +214,16 @@ fn put_step<'a>(
             hand.names.push(Named { name, place })?;
             hand.named.push(value)
         }
-        Step::Sees(_, _) => Ok(()),
+        Step::Sees(number, direction) => {
+            let value = value_at(alloc, setting, hand.values.as_slice(), *number)?;
+            let free = hand.free;
+            let values = &mut hand.values;
+            let next = put_seen(
+                alloc, coding, setting, *direction, &value, free, throw, values,
+            )?;
+            hand.free = next;
+            Ok(())
+        }
     }
 }
 
@@ -140,18 +234,19 @@ pub fn put_steps<'a>(
     setting: &Setting<'_>,
     steps: &'a [Step],
     hand: &mut Hand<'a>,
+    throw: u32,
     fail: u32,
 ) -> Result<(), AllocError>
     ensures code { OnOk result (Emits coding.old coding.new
-        (λ name first. steps_code setting.now.types.now (kit_for setting.now name) steps.now (spec.hand_of hand.old) fail) no_labels) }
+        (λ name first. steps_code setting.now.types.now (kit_for setting.now name) steps.now (spec.hand_of hand.old) throw fail) no_labels) }
     ensures hand { OnOk result (spec.hand_of hand.new ≡
         steps_hand setting.now.types.now (kit_for setting.now (λ place typ. 0)) steps.now (spec.hand_of hand.old) fail) }
 {
     match steps {
         [] => Ok(()),
         [step, rest @ ..] => {
-            put_step(alloc, coding, setting, step, hand, fail)?;
-            put_steps(alloc, coding, setting, rest, hand, fail)
+            put_step(alloc, coding, setting, step, hand, throw, fail)?;
+            put_steps(alloc, coding, setting, rest, hand, throw, fail)
         }
     }
 }
@@ -254,7 +349,15 @@ fn put_choice<'a>(
     let mut begun = Items::new(alloc);
     copy_held(alloc, values, &mut begun)?;
     let mut hand = begin_hand(alloc, begun, free);
-    put_steps(alloc, coding, setting, steps, &mut hand, stand.on_no)?;
+    put_steps(
+        alloc,
+        coding,
+        setting,
+        steps,
+        &mut hand,
+        stand.on_throw,
+        stand.on_no,
+    )?;
     let noted = copy_both(alloc, values, hand.named.as_slice())?;
     let levels = stand.levels;
     let held = noted.as_slice();

@@ -29,7 +29,7 @@ pub use notes::{list_given, list_notes, put_notes};
 pub use parts::{
     component_type, field_types, is_dead, is_never, item_type, payload_type, way_type,
 };
-pub use setting::{Reads, Setting, as_number, find, further};
+pub use setting::{Mapped, Reads, Setting, as_number, find, further};
 pub use stands::{Levels, Named, Scope, Stand, count_names, depth_here, depth_of, place_in};
 pub use stores::count_indexes;
 pub use tails::{Tail, put_nothing, put_tail};

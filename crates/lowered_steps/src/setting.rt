@@ -1,5 +1,5 @@
 //! What the code of one function is made by.
-ghost use Rattle.std.specs.Prelude.{◌≡◌, ◌+◌, ◌++◌, map, IfOk, OnOk, if◌then◌else◌};
+ghost use Rattle.std.specs.Prelude.{◌≡◌, ◌+◌, ◌++◌, map, slice_get, IfOk, OnOk, if◌then◌else◌};
 ghost use Rattle.std.specs.Option.{option_copied};
 ghost use Rattle.std.specs.Str.{bytes_eq};
 ghost use Rattle.sail_core.specs.Nodes.{giver_eq};
@@ -27,6 +27,19 @@ pub struct Reads {
     pub types: Items<Sized>,
 }
 
+/// A direction of a mapping, which is a function that gives an option.
+#[derive(Drop)]
+pub struct Mapped {
+    /// The number of the function.
+    pub function: u32,
+    /// The type of what it takes.
+    pub takes: Sized,
+    /// The type of the option that it gives.
+    pub gives: Sized,
+    /// That of the option's payload.
+    pub payload: Sized,
+}
+
 /// What the code of one function is made by.
 #[derive(Clone, Copy)]
 pub struct Setting<'a> {
@@ -52,6 +65,8 @@ pub struct Setting<'a> {
     pub numbers: &'a [Option<i128>],
     /// The types at which the function's variables are read, once for each name.
     pub reads: &'a [Reads],
+    /// The directions of mappings.
+    pub directions: &'a [Mapped],
 }
 
 /// The number of the first type that is this one; where there is none, how many there are.
@@ -284,6 +299,13 @@ impl<'a> Setting<'a> {
         ensures { result.now ≡ reads_at self.now.reads.now name.now }
     {
         reads_of(name, self.reads)
+    }
+
+    /// A direction of a mapping; none where there is no such direction.
+    pub fn direction(&self, direction: u32) -> Option<&'a Mapped>
+        ensures { option_copied result ≡ slice_get self.now.directions.now direction }
+    {
+        self.directions.get(direction as usize)
     }
 
     /// The number of a type. It fails where there are 2^32 types or more.
