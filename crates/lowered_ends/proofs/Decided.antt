@@ -28,7 +28,7 @@ use Rattle.lowered_pieces.specs.Tables.{cases_among}
 use Rattle.lowered_pieces.specs.Nodes.{cases_at, is_empty}
 use Rattle.lowered_pieces.specs.Writes.{is_read}
 use Rattle.size_values.specs.declared.sized.Sized.{Sized}
-use Rattle.lowered_steps.specs.Setting.{nodes_in, reads_at, size_for}
+use Rattle.lowered_steps.specs.Setting.{crosses_for, nodes_in, reads_at, size_for}
 use Rattle.lowered_ends.specs.Able.{all_for, block_ok, foreach_ok, matched_for, number_fits, statement_ok, suffixes_fit, variable_ok, way_fits}
 use Rattle.lowered_ends.specs.Around.{node_for}
 use Rattle.lowered_ends.specs.declared.around.Around.{Around}
@@ -60,7 +60,8 @@ module _ (setting : Setting) (around : Around) (name : Naming) where
       → (statement_ok setting around name x c && block_ok setting around name ss cs) ≡ block_ok setting around name (x ∷ ss) (c ∷ cs)
   block_decided X.Evaluate ss c cs = refl
   block_decided (X.Define place arm) ss c cs =
-      joined (arm_fits (size_for setting) (reads_at setting.reads.now) arm) (matched_for setting around name c) (block_ok setting around name ss cs)
+      joined (arm_fits (size_for setting) (crosses_for setting) (reads_at setting.reads.now) arm) (matched_for setting around name c)
+      (block_ok setting around name ss cs)
   block_decided (X.Declare text written) ss c cs = refl
 
   short_block : (x : Statement) (ss : List Statement) → false ≡ block_ok setting around name (x ∷ ss) []

@@ -4,6 +4,7 @@ pub mod Opened
 pub mod Counts
 mod Notes
 pub mod Said
+mod Kept
 mod Decided
 pub mod Sizes
 mod Parts

@@ -20,7 +20,7 @@ use Rattle.lowered_pieces.specs.Lowering.{Node, all_lowered, block_lowered, is_m
 use Rattle.lowered_pieces.specs.Tables.{cases_among}
 use Rattle.lowered_pieces.specs.Places.{Naming}
 use Rattle.lowered_steps.specs.declared.setting.Setting.{Setting}
-use Rattle.lowered_steps.specs.Setting.{nodes_in, reads_at, size_for, tables_for}
+use Rattle.lowered_steps.specs.Setting.{crosses_for, nodes_in, reads_at, size_for, tables_for}
 use Rattle.lowered_ends.specs.declared.around.Around.{Around}
 use Rattle.lowered_ends.specs.Around.{callees_of, node_for}
 
@@ -52,7 +52,7 @@ module _ (setting : Setting) (around : Around) (name : Naming) where
   -- a statement, with its part
   abbrev pub statement_ok : Statement → Core → Bool
   statement_ok S.Evaluate c = (node_for setting around name c).ok
-  statement_ok (S.Define place arm) c = arm_fits (size_for setting) (reads_at setting.reads.now) arm && matched_for c
+  statement_ok (S.Define place arm) c = arm_fits (size_for setting) (crosses_for setting) (reads_at setting.reads.now) arm && matched_for c
   statement_ok (S.Declare text written) c = (node_for setting around name c).ok
 
   abbrev pub block_ok : List Statement → List Core → Bool

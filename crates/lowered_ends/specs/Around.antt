@@ -1,5 +1,5 @@
 -- What is around a function, as the code that makes its code holds it.
-use Rattle.std.specs.Prelude.{ℕ, ◌*◌, Bool, is_some, map, Option, Some, None, slice_get, slice_index_or}
+use Rattle.std.specs.Prelude.{ℕ, ◌+◌, ◌*◌, Bool, map, Option, Some, None, slice_get, slice_index_or}
 use Rattle.size_values.specs.declared.sized.Sized.{Sized}
 use Rattle.size_values.specs.declared.sized.Sized.TheVariants as S
 use Rattle.size_values.specs.Numbers.{known_of, known_at, truth_of}
@@ -8,17 +8,16 @@ use Rattle.sized_nodes.specs.declared.trees.SizedInstance.{SizedInstance}
 use Rattle.sail_core.specs.declared.tree.Core.{Core, out-Core}
 use Rattle.sail_core.specs.declared.tree.Kind.{Kind}
 use Rattle.lowered_pieces.specs.Places.{Naming}
-use Rattle.lowered_pieces.specs.Forms.{Callees, Mapped, Piece}
+use Rattle.lowered_pieces.specs.Forms.{Callees, Piece}
 use Rattle.lowered_pieces.specs.Lowering.{Node, kind_lowered, kind_piece, node, pieces_of}
 use Rattle.lowered_pieces.specs.Nodes.{told_as}
 use Rattle.lowered_steps.specs.declared.setting.Setting.{Setting}
-use Rattle.lowered_steps.specs.Setting.{kit_for, number_for, size_for, tables_for}
+use Rattle.lowered_steps.specs.Setting.{crosses_for, kit_for, number_for, size_for, tables_for, ways_for}
 use Rattle.lowered_ends.specs.declared.around.Around.{Around}
-use Rattle.lowered_ends.specs.declared.around.Mapped.{Mapped as Direction}
 
--- of the instance of a place the function that calls enter; events enter the one behind it
-abbrev pub called_number : ℕ → ℕ
-called_number p = 2 * p
+-- of the instance of a place the function that calls enter, behind so many others; events enter the one behind it
+abbrev pub called_number : ℕ → ℕ → ℕ
+called_number before p = before + 2 * p
 
 abbrev pub result_in : Option Signature → Sized
 result_in None = S.Never
@@ -28,24 +27,16 @@ abbrev pub answer_in : Option SizedInstance → Sized
 answer_in None = S.Never
 answer_in (Some x) = result_in x.signature
 
--- a direction of a mapping; nothing is called where there is none
-abbrev pub mapped_of : Direction → Mapped
-mapped_of m = record { function = m.function; takes = m.takes; gives = m.gives; payload = m.payload }
-
-abbrev pub direction_in : Option Direction → Mapped
-direction_in None = record { function = 0; takes = S.Never; gives = S.Never; payload = S.Never }
-direction_in (Some m) = mapped_of m
-
 abbrev pub callees_of : Setting → Around → Callees
 callees_of setting around = record {
-  function = called_number;
+  function = called_number around.before;
   answer = λ p. answer_in (slice_get around.instances.now p);
   size = size_for setting;
   truth = λ c. truth_of (known_at (known_of setting.numbers.now)) c;
   given = around.given.now;
   opening = λ i. slice_index_or around.openings.now i 0;
-  direction = λ d. direction_in (slice_get around.directions.now d);
-  crosses = λ d. is_some (slice_get around.directions.now d);
+  direction = ways_for setting;
+  crosses = crosses_for setting;
 }
 
 -- the code of a node, under a numbering of slots, and whether it is lowered here

@@ -1,5 +1,6 @@
 pub mod Able
 pub mod Around
+pub mod Keeping
 pub mod Ends
 pub mod Noted
 pub mod Targets

@@ -14,9 +14,9 @@ ghost use Rattle.lowered_pieces.specs.Gathered.{is_one as is_one_of};
 ghost use Rattle.lowered_pieces.specs.Mapped.{ends_with as ends_with_of, fixed_end as fixed_end_of};
 ghost use Rattle.lowered_pieces.specs.Places.{Naming};
 ghost use Rattle.lowered_steps.specs.Hands.{types_of};
-ghost use Rattle.lowered_steps.specs.Setting.{reads_at, size_for};
+ghost use Rattle.lowered_steps.specs.Setting.{crosses_for, reads_at, size_for, ways_for};
 ghost use Rattle.lowered_ends.specs.Able as spec;
-ghost use Rattle.lowered_ends.specs.Around.{direction_in, node_for, ok_as};
+ghost use Rattle.lowered_ends.specs.Around.{node_for, ok_as};
 
 use crate::around::{Around, lead_to};
 use crate::cells::{is_numbered, is_spot};
@@ -62,9 +62,19 @@ fn is_width(setting: &Setting<'_>, width: &Option<Num>) -> bool
     }
 }
 
+/// Whether there is a direction.
+fn is_crossed(setting: &Setting<'_>, direction: u32) -> bool
+    ensures { result ≡ crosses_for setting.now direction }
+{
+    match setting.direction(direction) {
+        Some(_) => true,
+        None => false,
+    }
+}
+
 /// Whether a step is lowered.
 fn is_step(setting: &Setting<'_>, step: &Step) -> bool
-    ensures { result ≡ step_fits (size_for setting.now) (reads_at setting.now.reads.now) step.now }
+    ensures { result ≡ step_fits (size_for setting.now) (crosses_for setting.now) (reads_at setting.now.reads.now) step.now }
 {
     match step {
         Step::Opens(_, head, _) => match head {
@@ -72,7 +82,7 @@ fn is_step(setting: &Setting<'_>, step: &Step) -> bool
             _ => true,
         },
         Step::Names(_, name) => is_unread(setting, name),
-        Step::Sees(_, _) => false,
+        Step::Sees(_, direction) => is_crossed(setting, *direction),
     }
 }
 
@@ -88,7 +98,7 @@ pub fn arm_steps(arm: &Arm) -> &[Step]
 
 /// Whether all steps are lowered.
 fn are_steps(setting: &Setting<'_>, steps: &[Step]) -> bool
-    ensures { result ≡ steps_fit (size_for setting.now) (reads_at setting.now.reads.now) steps.now }
+    ensures { result ≡ steps_fit (size_for setting.now) (crosses_for setting.now) (reads_at setting.now.reads.now) steps.now }
 {
     match steps {
         [] => true,
@@ -98,7 +108,7 @@ fn are_steps(setting: &Setting<'_>, steps: &[Step]) -> bool
 
 /// Whether an arm is lowered.
 pub fn is_arm(setting: &Setting<'_>, arm: &Arm) -> bool
-    ensures { result ≡ arm_fits (size_for setting.now) (reads_at setting.now.reads.now) arm.now }
+    ensures { result ≡ arm_fits (size_for setting.now) (crosses_for setting.now) (reads_at setting.now.reads.now) arm.now }
 {
     match arm {
         Arm::Flat(_, steps) => are_steps(setting, steps.as_slice()),
@@ -108,7 +118,7 @@ pub fn is_arm(setting: &Setting<'_>, arm: &Arm) -> bool
 
 /// Whether all arms are lowered.
 fn are_arms(setting: &Setting<'_>, arms: &[Arm]) -> bool
-    ensures { result ≡ arms_fit (size_for setting.now) (reads_at setting.now.reads.now) arms.now }
+    ensures { result ≡ arms_fit (size_for setting.now) (crosses_for setting.now) (reads_at setting.now.reads.now) arms.now }
 {
     match arms {
         [] => true,
@@ -434,11 +444,10 @@ fn is_row(
 }
 
 /// Whether a value of these types may be handed to a direction: there is one, and it takes the one type that is said.
-fn is_taken(around: &Around<'_>, direction: u32, ends: &Ends<'_>) -> bool
-    ensures { result ≡ (is_some (slice_get around.now.directions.now direction)
-        && ends_with_of (direction_in (slice_get around.now.directions.now direction)).takes (fixed_end_of (types_of ends.now))) }
+fn is_taken(setting: &Setting<'_>, direction: u32, ends: &Ends<'_>) -> bool
+    ensures { result ≡ (crosses_for setting.now direction && ends_with_of (ways_for setting.now direction).takes (fixed_end_of (types_of ends.now))) }
 {
-    match around.direction(direction) {
+    match setting.direction(direction) {
         Some(mapped) => ends_with(&mapped.takes, ends),
         None => false,
     }
@@ -459,7 +468,7 @@ fn is_crossing(
         [] => Ok(false),
         [value] => {
             let ends = node_ends(alloc, setting, around, value)?;
-            let taken = is_taken(around, direction, &ends);
+            let taken = is_taken(setting, direction, &ends);
             let is_value = is_lowered(alloc, setting, around, value)?;
             Ok(both(taken, is_value))
         }

@@ -1,5 +1,4 @@
 //! What is around a function.
-ghost use Rattle.std.specs.Option.{option_copied};
 ghost use Rattle.std.specs.Prelude.{◌≡◌, slice_get, slice_index_or, IfOk};
 ghost use Rattle.lowered_pieces.specs.Nodes.{function_in};
 ghost use Rattle.lowered_pieces.specs.Tables.{leads_to};
@@ -10,20 +9,8 @@ use size_values::{Sized, copy_sized};
 use sized_nodes::{Lead, SizedInstance};
 use std::alloc::{AllocError, Global};
 
-/// A direction of a mapping, which is a function that gives an option.
-#[derive(Drop)]
-pub struct Mapped {
-    /// The number of the function that calls enter.
-    pub function: u32,
-    /// The type of what it takes.
-    pub takes: Sized,
-    /// The type of the option that it gives.
-    pub gives: Sized,
-    /// That of the option's payload.
-    pub payload: Sized,
-}
-
-/// What is around a function: the instances, the types of what it is called with, the openings of the names of top-level lets, and the directions of mappings.
+/// What is around a function: the instances, behind so many functions of directions, the types of what it is called with, and the openings of the names of
+/// top-level lets.
 #[derive(Clone, Copy)]
 pub struct Around<'a> {
     /// The instances.
@@ -32,8 +19,8 @@ pub struct Around<'a> {
     pub given: &'a [Sized],
     /// For each name of a top-level let the opening that gives its value.
     pub openings: &'a [u32],
-    /// The directions of mappings.
-    pub directions: &'a [Mapped],
+    /// How many functions stand before those of instances.
+    pub before: u32,
 }
 
 impl Around<'_> {
@@ -62,13 +49,6 @@ impl Around<'_> {
             None => 0,
         }
     }
-
-    /// A direction of a mapping; none where there is no such direction.
-    pub fn direction(&self, direction: u32) -> Option<&Mapped>
-        ensures { option_copied result ≡ slice_get self.now.directions.now direction }
-    {
-        self.directions.get(direction as usize)
-    }
 }
 
 /// The function of the instance at a place; the first where there is none.
@@ -93,12 +73,12 @@ pub fn lead_to(around: &Around<'_>, function: u32, leads: &[Lead]) -> bool
     }
 }
 
-/// The function that calls of the instance at a place enter. It fails where there are 2^31 instances or more.
-pub fn called_function(instance: usize) -> Result<u32, AllocError>
-    ensures { IfOk result (λ number. number ≡ called_number instance) }
+/// The function that calls of the instance at a place enter, behind so many others. It fails where there are 2^32 functions or more.
+pub fn called_function(before: u32, instance: usize) -> Result<u32, AllocError>
+    ensures { IfOk result (λ number. number ≡ called_number before instance) }
 {
     match u32::try_from(instance) {
-        Ok(place) => further(place, place),
+        Ok(place) => further(before, further(place, place)?),
         Err(_) => Err(AllocError),
     }
 }

@@ -1,5 +1,5 @@
 //! The types that the value of a node may have, where they are said: of a node that ends with one that makes a value, by the numbers that are noted behind it.
-ghost use Rattle.std.specs.Prelude.{◌≡◌, nat_eq, length, not, IfOk};
+ghost use Rattle.std.specs.Prelude.{◌≡◌, nat_eq, length, map, IfOk, [], if◌then◌else◌};
 ghost use Rattle.sail_types.specs.declared.table.Types.{Types};
 ghost use Rattle.sail_core.specs.declared.tree.Giver.TheVariants as giver;
 ghost use Rattle.sail_core.specs.declared.tree.Kind.TheVariants as kind;
@@ -7,11 +7,13 @@ ghost use Rattle.sail_core.specs.Values.{literal_typ};
 ghost use Rattle.row_types.specs.Calls.{has_state as has_state_of};
 ghost use Rattle.sized_meanings.specs.Present.{gives_at};
 ghost use Rattle.checked_meaning.specs.Items.{fixed_typ};
-ghost use Rattle.lowered_pieces.specs.Forms.{cases_apart, cases_ends, ends_of, is_in, picked_apart};
+ghost use Rattle.lowered_pieces.specs.Forms.{cases_ends, ends_of, first_end as first_end_of};
+ghost use Rattle.lowered_pieces.specs.Keeping.{all_kept as all_kept_of};
 ghost use Rattle.std.specs.Option.{option_copied};
 ghost use Rattle.lowered_pieces.specs.Mapped.{ends_with as ends_with_of, fixed_end as fixed_end_of};
 ghost use Rattle.lowered_pieces.specs.Nodes.{cases_at};
 ghost use Rattle.lowered_ends.specs.Ends as spec;
+ghost use Rattle.lowered_steps.specs.Found.{indices_of};
 ghost use Rattle.lowered_steps.specs.Hands.{types_of};
 ghost use Rattle.lowered_ends.specs.Around.{piece_as, piece_for};
 ghost use Rattle.lowered_pieces.specs.Places.{Naming};
@@ -19,42 +21,35 @@ ghost use Rattle.lowered_steps.specs.Setting.{nodes_in};
 
 use crate::able::{are_suffixes, both};
 use crate::around::Around;
+use crate::keeping::{all_kept, give_one};
 use jib::has_state;
-use lowered_steps::{Ends, Setting, list_given};
+use lowered_steps::{Ends, Setting};
 use sail_base::{Items, Text};
 use sail_core::{Callee, Core, Giver, Kind, Literal, Statement, Suffix, Way};
 use sail_types::{Con, Num, Row};
-use size_values::{Picked, Sized, Variables, copy_sized, same_sized, truth_of, value_of};
+use size_values::{Sized, Variables, copy_sized, same_sized, truth_of, value_of};
 use sized_nodes::Case;
 use std::alloc::{AllocError, Global};
+use value_indices::Indices;
 
-/// Whether a variable is none of these.
-fn is_apart(variable: u32, noted: &[u32]) -> bool
-    ensures { result ≡ not (is_in variable noted.now) }
-{
-    match noted {
-        [] => true,
-        [first, rest @ ..] => variable != *first && is_apart(variable, rest),
-    }
-}
-
-/// Whether none of the numbers is of one of these variables.
-fn all_apart(noted: &[u32], picked: &[Picked]) -> bool
-    ensures { result ≡ picked_apart noted.now picked.now }
-{
-    match picked {
-        [] => true,
-        [first, rest @ ..] => is_apart(first.variable, noted) && all_apart(noted, rest),
-    }
-}
-
-/// Whether cases go by none of these variables.
-pub fn are_apart(noted: &[u32], cases: &[Case]) -> bool
-    ensures { result ≡ cases_apart noted.now cases.now }
+/// The type of the first case; `()` where there is none, so that no value is made. It fails where memory is wanting.
+fn first_end<'a>(alloc: Global, cases: &[Case]) -> Result<Ends<'a>, AllocError>
+    ensures { IfOk result (λ ends. types_of ends ≡ first_end_of cases.now) }
 {
     match cases {
-        [] => true,
-        [first, rest @ ..] => all_apart(noted, first.picked.as_slice()) && are_apart(noted, rest),
+        [] => Ok(Ends::One(Sized::Unit)),
+        [first, ..] => Ok(Ends::One(copy_sized(alloc, &first.gives)?)),
+    }
+}
+
+/// What is said of values of cases that don't all give one type, where these indices say which numbers they give.
+fn kept_ends<'a>(given: &[&Indices], cases: &'a [Case]) -> Ends<'a>
+    ensures { types_of result ≡ (if all_kept_of (map indices_of given.now) cases.now then cases_ends cases.now else []) }
+{
+    if all_kept(given, cases) {
+        Ends::Cases(cases)
+    } else {
+        Ends::Unsaid
     }
 }
 
@@ -69,13 +64,11 @@ pub fn made_ends<'a>(
         ≡ ends_of (gives_at (nodes_in setting.now) (giver.Node node)) (cases_at node operands (nodes_in setting.now))) }
 {
     let cases = setting.cases(node, operands);
-    let mut noted = Items::new(alloc);
-    list_given(alloc, &mut noted, setting, Giver::Node(node))?;
-    if are_apart(noted.as_slice(), cases) {
-        Ok(Ends::Cases(cases))
-    } else {
-        Ok(Ends::Unsaid)
+    if give_one(cases) {
+        return first_end(alloc, cases);
     }
+    let given = setting.gives(alloc, Giver::Node(node))?;
+    Ok(kept_ends(given.as_slice(), cases))
 }
 
 /// The type of a literal. It fails where memory is wanting.

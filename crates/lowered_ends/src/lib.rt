@@ -8,14 +8,15 @@ mod able;
 mod around;
 mod cells;
 mod ends;
+mod keeping;
 mod mapped;
 mod noted;
 mod targets;
 mod told;
 
 pub use able::{are_suffixes, arm_steps, is_arm, is_lowered, is_one};
-pub use around::{Around, Mapped, called_function};
-pub use ends::{are_apart, ends_with, literal_type, made_ends, node_ends};
+pub use around::{Around, called_function};
+pub use ends::{ends_with, literal_type, made_ends, node_ends};
 pub use mapped::{fixed_type, option_of};
 pub use noted::{list_arm, list_noted};
 pub use targets::{Spot, spot_of};

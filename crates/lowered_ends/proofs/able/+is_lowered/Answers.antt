@@ -15,7 +15,7 @@ use Rattle.lowered_pieces.specs.Nodes.{function_in}
 use Rattle.lowered_pieces.specs.Places.{Naming}
 use Rattle.lowered_pieces.specs.Tables.{leads_to}
 use Rattle.lowered_pieces.specs.Writes.{Spot as SpotOf, spot_lowered}
-use Rattle.lowered_steps.specs.Setting.{reads_at, size_for, tables_for}
+use Rattle.lowered_steps.specs.Setting.{crosses_for, reads_at, size_for, tables_for}
 use Rattle.sail_core.specs.declared.patterns.Arm.{Arm}
 use Rattle.sail_core.specs.declared.targets.Suffix.{Suffix}
 use Rattle.sail_core.specs.declared.targets.Target.{Target}
@@ -657,18 +657,18 @@ is_let-is_lowered-requires t c =
 pub is_match-returns-in_ok-are_bodies-in-len1-up : goal.is_match-returns-in_ok-are_bodies-in-len1-up
 is_match-returns-in_ok-are_bodies-in-len1-up t c =
     let setting = c.args.setting.now in let around = c.args.around.now in let node = c.args.node.now in λ name. c.both.ensures ∙ (λ i.
-    c.in_ok-is_value-in-len1-up.ensures name i && (c.both-arms_stand.ensures ∙ (λ j. (c.are_arms-flat.ensures ∙ ap (λ (arms : List Arm). arms_fit (size_for
-    setting) (reads_at setting.reads.now) arms) c.as_slice-in-len1-up.ensures) j && c.in_ok-are_bodies-in-len1-up.ensures name j)) i) ∙ ap (λ (cs : List
-    Core). ok_with setting
+    c.in_ok-is_value-in-len1-up.ensures name i && (c.both-arms_stand.ensures ∙ (λ j. (c.are_arms-flat.ensures ∙ ap (λ (arms : List Arm). arms_fit
+    (size_for setting) (crosses_for setting) (reads_at setting.reads.now) arms) c.as_slice-in-len1-up.ensures) j
+    && c.in_ok-are_bodies-in-len1-up.ensures name j)) i) ∙ ap (λ (cs : List Core). ok_with setting
     around name (K.Match c.args.arms.now S.Unit) node cs) (sym (sym c.as_slice.ensures ∙ first_of _ _ c.in-len1-up.len_at_least c.value-item.is))
 
 pub is_try-returns-in_ok-are_bodies-in-len1-up : goal.is_try-returns-in_ok-are_bodies-in-len1-up
 is_try-returns-in_ok-are_bodies-in-len1-up t c =
     let setting = c.args.setting.now in let around = c.args.around.now in let node = c.args.node.now in λ name. c.both.ensures ∙ (λ i.
     c.in_ok-is_value-in-len1-up.ensures name i && (c.both-caught.ensures ∙ (λ j. (c.is_said-said.ensures ∙ ap (λ (es : List End). has_ends es)
-    c.in_ok-ends-in-len1-up.ensures) j && (c.both-arms_stand.ensures ∙ (λ k. (c.are_arms-flat.ensures ∙ ap (λ (arms : List Arm). arms_fit (size_for setting)
-    (reads_at setting.reads.now) arms) c.as_slice-in-len1-up.ensures) k && c.in_ok-are_bodies-in-len1-up.ensures name k)) j)) i) ∙ ap (λ (cs : List Core).
-    ok_with setting
+    c.in_ok-ends-in-len1-up.ensures) j && (c.both-arms_stand.ensures ∙ (λ k. (c.are_arms-flat.ensures ∙ ap (λ (arms : List Arm). arms_fit
+    (size_for setting) (crosses_for setting) (reads_at setting.reads.now) arms) c.as_slice-in-len1-up.ensures) k
+    && c.in_ok-are_bodies-in-len1-up.ensures name k)) j)) i) ∙ ap (λ (cs : List Core). ok_with setting
     around name (K.Try c.args.arms.now S.Unit) node cs) (sym (sym c.as_slice.ensures ∙ first_of _ _ c.in-len1-up.len_at_least c.value-item.is))
 
 pub is_match-is_matched-requires : goal.is_match-is_matched-requires
@@ -690,7 +690,8 @@ is_try-are_lowered-requires t c =
 pub are_clauses-returns : goal.are_clauses-returns
 are_clauses-returns t c =
     let setting = c.args.setting.now in let around = c.args.around.now in let node = c.args.node.now in λ name. c.both.ensures ∙ (λ i.
-    (c.are_arms-flat.ensures ∙ ap (λ (arms : List Arm). arms_fit (size_for setting) (reads_at setting.reads.now) arms) c.as_slice.ensures) i &&
+    (c.are_arms-flat.ensures ∙ ap (λ (arms : List Arm). arms_fit (size_for setting) (crosses_for setting)
+    (reads_at setting.reads.now) arms) c.as_slice.ensures) i &&
     (c.in_ok-are_bodies.ensures name ∙ ap
     (λ (cs : List Core). all_for setting around name cs) c.as_slice-2.ensures) i)
 
