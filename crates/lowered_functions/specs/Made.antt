@@ -1,5 +1,5 @@
 -- What is made of a function: its code under the numbering of its own slots, of which the first are for what is thrown and for its arguments.
-use Rattle.std.specs.Prelude.{◌≡◌, ℕ, ◌+◌, ◌<◌, Bool, List, [], ◌∷◌, ◌++◌, length, option_map, slice_get, Some}
+use Rattle.std.specs.Prelude.{◌≡◌, ℕ, ◌+◌, ◌<◌, List, [], ◌∷◌, ◌++◌, length, option_map, slice_get, Some}
 use Rattle.sail_base.specs.declared.place.Place.{Place as TextPlace}
 use Rattle.sail_types.specs.declared.types.Typ.{Typ}
 use Rattle.sail_core.specs.Meaning.{option_typ}
@@ -90,9 +90,9 @@ module _ (walk : Walk) (name : Naming) where
   called_for f = called_code kit f.place (option_map piece_at (measure_of f.cycle f.measure)) (result_for f.last f.body)
 
   -- what a direction gives is an option of what its clauses give
-  abbrev pub mapping_for : Bool → TextPlace → Typ → Core → List Instruction
-  mapping_for is_called place t c =
-      direction_code kit is_called place
+  abbrev pub mapping_for : TextPlace → Typ → Core → List Instruction
+  mapping_for place t c =
+      direction_code kit place
       (optional_piece setting.types.now kit (fixed_typ setting.types.now (option_typ t)) (fixed_typ setting.types.now t) (piece_at c))
 
   abbrev pub event_for : Function → List Instruction

@@ -5,7 +5,7 @@ ghost use Rattle.jib.specs.declared.code.Instruction.TheVariants as code;
 ghost use Rattle.lowered_slots.specs.declared.slots.Place.TheVariants as place;
 ghost use Rattle.lowered_pieces.specs.Emitted.{Emits, no_labels};
 ghost use Rattle.lowered_pieces.specs.Forms.{code_of, count_of};
-ghost use Rattle.lowered_pieces.specs.Functions.{all_in, tick_code, answer_code, ends_code, measure_of, measure_stand};
+ghost use Rattle.lowered_pieces.specs.Functions.{all_in, answer_code, ends_code, measure_of, measure_stand};
 ghost use Rattle.lowered_steps.specs.Setting.{kit_for};
 ghost use Rattle.lowered_nodes.specs.Around.{node_for, piece_for};
 ghost use Rattle.lowered_pieces.specs.Places.{Naming, from};
@@ -208,29 +208,19 @@ pub fn put_event<'x>(
     Ok(coding)
 }
 
-/// A tick, where there is one. It fails where memory is wanting.
-fn put_ticked(coding: &mut Coding, is_called: bool) -> Result<(), AllocError>
-    ensures { OnOk result (Emits coding.old coding.new (λ name first. tick_code is_called) no_labels) }
-{
-    if is_called { coding.put_tick() } else { Ok(()) }
-}
-
-/// A direction of a mapping, with values of these types: an option, over a payload of this type, of what its clauses give. Where calls enter it, with a
-/// tick. It fails where memory is wanting.
+/// A direction of a mapping, with values of these types: an option, over a payload of this type, of what its clauses give. It fails where memory is wanting.
 pub fn put_mapping<'x>(
     walk: &'x Walk<'x>,
     place: TextPlace,
     payload: &'x Typ,
     clauses: &'x Core,
     given: &[Sized],
-    is_called: bool,
 ) -> Result<Coding, AllocError>
     requires lowered { (name : Naming) → (node_for walk.now.setting.now walk.now.around.now name clauses.now).ok ≡ true }
     ensures { IfOk result (λ coding. CodeMade walk.now coding given.now
-        (λ name. mapping_for walk.now name is_called place payload.now clauses.now)) }
+        (λ name. mapping_for walk.now name place payload.now clauses.now)) }
 {
     let mut coding = begin(&*walk, given)?;
-    put_ticked(&mut coding, is_called)?;
     let scope = Scope::Empty;
     let levels = Levels::Outside;
     let stand = Stand {

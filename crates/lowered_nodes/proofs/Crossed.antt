@@ -16,14 +16,13 @@ use Rattle.lowered_pieces.specs.Mapped.{applied_piece, operand_moved}
 use Rattle.lowered_pieces.specs.Nodes.{cases_at}
 use Rattle.lowered_pieces.specs.Places.{Naming}
 use Rattle.lowered_steps.specs.declared.making.Making.TheVariants as M
+use Rattle.lowered_steps.specs.declared.setting.Mapped.{Mapped as Direction}
 use Rattle.lowered_steps.specs.declared.stands.Stand.{Stand as Standing}
 use Rattle.lowered_steps.specs.declared.tails.Tail.{Tail}
 use Rattle.lowered_steps.specs.Makers.{maker_of}
-use Rattle.lowered_steps.specs.Setting.{kit_for, nodes_in, number_for}
+use Rattle.lowered_steps.specs.Setting.{direction_in, kit_for, nodes_in, number_for}
 use Rattle.lowered_steps.specs.Stands.{stand_of}
 use Rattle.lowered_steps.specs.Tails.{tail_of}
-use Rattle.lowered_ends.specs.Around.{direction_in}
-use Rattle.lowered_ends.specs.declared.around.Mapped.{Mapped as Direction}
 use Rattle.lowered_nodes.specs.declared.walk.Walk.{Walk}
 use Rattle.lowered_nodes.specs.Walk.{Held, Puts, applied_for, direction_for, piece_at}
 use Rattle.lowered_nodes.proofs.Joining.{ok_as, ok_first, ok_more}
@@ -40,7 +39,7 @@ module _ {T E : Type 0} (r : Result T E) (walk : Walk) (stand : Standing) (tail 
   abbrev answer_labels : Naming → ℕ
   answer_labels name = many (tail_of walk.setting.now name tail).labels (cases_at (out-Core node).number 1 (nodes_in walk.setting.now))
 
-  pub applied_put : (d : ℕ) (m : Direction) → slice_get walk.around.now.directions.now d ≡ Some m → (es : List End)
+  pub applied_put : (d : ℕ) (m : Direction) → slice_get walk.setting.now.directions.now d ≡ Some m → (es : List End)
       → ((name : Naming) → es ≡ (piece_at walk name value).ends) → (a b c e f g h z : Coding) (l k n : ℕ) → l ≡ a.labels → k ≡ l + 1
       → n ≡ number_for walk.setting.now m.payload → Takes a b 2 → Held b c stand (λ name. piece_at walk name value)
       → Emits c e (λ name x. direction_for walk name stand m es (out-Core node).place l) no_labels → Plain e f (λ name. I.Goto k ∷ I.Label l ∷ [])

@@ -25,7 +25,7 @@ use Rattle.lowered_pieces.specs.Moves.{retype}
 use Rattle.lowered_pieces.specs.Nodes.{cases_at}
 use Rattle.lowered_pieces.specs.Places.{Naming}
 use Rattle.lowered_steps.specs.declared.hands.Matched.{Matched}
-use Rattle.lowered_steps.specs.Setting.{kit_for, nodes_in, number_for, reads_at, size_for}
+use Rattle.lowered_steps.specs.Setting.{crosses_for, kit_for, nodes_in, number_for, reads_at, size_for}
 use Rattle.lowered_ends.specs.Around.{callees_of, node_for}
 use Rattle.lowered_nodes.specs.declared.arms.Otherwise.{Otherwise}
 use Rattle.lowered_nodes.specs.declared.walk.Walk.{Walk}
@@ -52,7 +52,7 @@ module _ (walk : Walk) (name : Naming) where
   pub define_lowered : (place : TextPlace) (arm : Arm) (rest : List Statement) (first : Core) (others : List Core)
       → block_ok walk name (X.Define place arm ∷ rest) (first ∷ others) ≡ true → bound_ok walk name first rest others ≡ true
   define_lowered place arm rest first others h =
-      let both = (and_parts (arm_fits (size_for walk.setting.now) (reads_at walk.setting.now.reads.now) arm)
+      let both = (and_parts (arm_fits (size_for walk.setting.now) (crosses_for walk.setting.now) (reads_at walk.setting.now.reads.now) arm)
       (is_matched (node_for walk.setting.now walk.around.now name first) && block_ok walk name rest others) h).1 in
       let two = and_parts (is_matched (node_for walk.setting.now walk.around.now name first)) (block_ok walk name rest others) both in
       and_from (node_ok walk name first) (block_ok walk name rest others)
@@ -130,7 +130,7 @@ module _ (walk : Walk) (name : Naming) where
     -- arms
     module _ (arms : List Arm) (x : Core) (ys : List Core) where
       abbrev lowered_arms : Bool
-      lowered_arms = arms_fit (size_for walk.setting.now) (reads_at walk.setting.now.reads.now) arms
+      lowered_arms = arms_fit (size_for walk.setting.now) (crosses_for walk.setting.now) (reads_at walk.setting.now.reads.now) arms
 
       module _ (h : ok_with walk.setting.now walk.around.now name (K.Match arms S.Unit) node (x ∷ ys) ≡ true) where
         pub match_value : node_ok walk name x ≡ true

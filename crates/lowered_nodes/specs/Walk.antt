@@ -1,5 +1,5 @@
 -- What the functions of the walk put: each is a part of the definition of the code of a node.
-use Rattle.std.specs.Prelude.{ℕ, ◌+◌, Bool, true, ◌&&◌, List, [], ◌∷◌, ◌++◌, length, slice_get, map, Option, Some, None}
+use Rattle.std.specs.Prelude.{ℕ, ◌+◌, Bool, true, ◌&&◌, List, [], ◌∷◌, ◌++◌, length, map, Option, Some, None}
 use Rattle.sail_base.specs.declared.place.Place.{Place as TextPlace}
 use Rattle.sail_types.specs.declared.rows.Row.{Row}
 use Rattle.model_state.specs.declared.cause.Cause.TheVariants.{MatchFailure}
@@ -42,7 +42,7 @@ use Rattle.lowered_steps.specs.declared.cells.Cell.{Cell}
 use Rattle.lowered_steps.specs.declared.tails.Tail.{Tail}
 use Rattle.lowered_steps.specs.Hands.{matched_of}
 use Rattle.lowered_steps.specs.Makers.{maker_of}
-use Rattle.lowered_steps.specs.Setting.{kit_for, number_for, reads_at, size_for, tables_for, nodes_in}
+use Rattle.lowered_steps.specs.Setting.{crosses_for, kit_for, mapped_of, nodes_in, number_for, reads_at, size_for, tables_for, ways_for as directions_for}
 use Rattle.lowered_steps.specs.Stands.{depths_of, stand_of}
 use Rattle.lowered_steps.specs.Tails.{tail_of}
 use Rattle.lowered_ends.specs.Around.{callees_of, node_for, ok_as, piece_as}
@@ -52,8 +52,7 @@ use Rattle.sail_types.specs.declared.types.Typ.{Typ}
 use Rattle.sail_core.specs.Meaning.{option_typ}
 use Rattle.checked_meaning.specs.Items.{fixed_typ}
 use Rattle.lowered_pieces.specs.Mapped.{applied_piece, direction_call, operand_moved, optional_piece}
-use Rattle.lowered_ends.specs.Around.{direction_in, mapped_of}
-use Rattle.lowered_ends.specs.declared.around.Mapped.{Mapped as Direction}
+use Rattle.lowered_steps.specs.declared.setting.Mapped.{Mapped as Direction}
 use Rattle.lowered_nodes.specs.declared.calls.Calling.{Calling}
 use Rattle.lowered_nodes.specs.declared.loops.Counted.{Counted}
 use Rattle.lowered_nodes.specs.declared.walk.Walk.{Walk}
@@ -253,7 +252,7 @@ module _ (walk : Walk) where
 
     abbrev pub applied_for : ℕ → Core → Core → Piece
     applied_for d c value =
-        applied_piece kit (out-Core c).place (direction_in (slice_get walk.around.now.directions.now d)) (cases_at (out-Core c).number 1 (nodes_in setting))
+        applied_piece kit (out-Core c).place (directions_for setting d) (cases_at (out-Core c).number 1 (nodes_in setting))
         (given (G.Node (out-Core c).number))
         (piece_at value)
 
@@ -266,7 +265,7 @@ module _ (walk : Walk) where
 
     abbrev pub direction_for : Stand → Direction → List End → TextPlace → ℕ → List Instruction
     direction_for stand m es place l =
-        operand_moved kit stand.temp (only_end es) m.takes ++ direction_call kit place (mapped_of m) (stand_of stand)
+        operand_moved kit stand.temp (only_end es) m.takes ++ I.Tick ∷ direction_call kit place (mapped_of m) (stand_of stand)
         ∷ I.Payload (kit.name (Temp stand.temp) (kit.number m.payload)) (from kit (Temp stand.temp) (kit.number m.gives)) 0 l ∷ []
 
     -- `foreach`
@@ -355,7 +354,7 @@ module _ (walk : Walk) where
     path_ok whole suffixes indexes = node_ok whole && ways_ok suffixes indexes
 
     abbrev pub try_ok : List Arm → Core → List Core → Bool
-    try_ok arms value bodies = node_ok value && (arms_fit (size_for setting) (reads_at setting.reads.now) arms && all_lowered_for bodies)
+    try_ok arms value bodies = node_ok value && (arms_fit (size_for setting) (crosses_for setting) (reads_at setting.reads.now) arms && all_lowered_for bodies)
 
 -- indexes are in hand, and then a value behind so many places, with what is done with it
 abbrev pub Given : Coding → Coding → Walk → Stand → Tail → ℕ → List Core → Core → Type 0

@@ -58,7 +58,7 @@ fn put_lead<'x>(
     coding.put_call(
         Place::Temp(stand.temp),
         typ,
-        called_function(lead.instance)?,
+        called_function(walk.around.before, lead.instance)?,
         arguments,
         stand.on_throw,
         calling.place,

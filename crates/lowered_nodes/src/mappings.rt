@@ -12,10 +12,12 @@ ghost use Rattle.lowered_nodes.specs.Walk as spec;
 use crate::operands::{only_type, put_held};
 use crate::walk::{Walk, put_node};
 use jib::{Literal, Operation, Source};
-use lowered_ends::{Mapped, fixed_type, is_one, node_ends, option_of};
+use lowered_ends::{fixed_type, is_one, node_ends, option_of};
 use lowered_pieces::Coding;
 use lowered_slots::Place;
-use lowered_steps::{Ends, Making, Stand, Tail, end_arm, further, put_made, put_retype, put_tail};
+use lowered_steps::{
+    Ends, Making, Mapped, Stand, Tail, end_arm, further, put_made, put_retype, put_tail,
+};
 use model_state::Cause;
 use sail_base::{Items, Place as TextPlace};
 use sail_core::Core;
@@ -87,7 +89,7 @@ pub fn put_applied<'x>(
     let label = coding.take_labels(2)?;
     let behind = further(label, 1)?;
     put_held(&*walk, coding, &*stand, &*value)?;
-    match walk.around.direction(direction) {
+    match walk.setting.direction(direction) {
         Some(mapped) => {
             let ends = node_ends(walk.alloc, walk.setting, walk.around, &*value)?;
             put_direction(&*walk, coding, &*stand, mapped, &ends, node.place, label)?;
@@ -149,8 +151,8 @@ fn put_operand<'x>(
     }
 }
 
-/// A value in hand comes to the type that a direction takes, the direction is called, and the payload of what it gives is taken out; what is `None` goes
-/// to a label. It fails where memory is wanting.
+/// A value in hand comes to the type that a direction takes, the direction is called, with a tick, and the payload of what it gives is taken out; what is
+/// `None` goes to a label. It fails where memory is wanting.
 fn put_direction<'x>(
     walk: &'x Walk<'x>,
     coding: &mut Coding,
@@ -168,6 +170,7 @@ fn put_direction<'x>(
     let payload = walk.setting.number(&mapped.payload)?;
     let hand = Place::Temp(stand.temp);
     put_operand(&*walk, coding, stand.temp, &*ends, takes)?;
+    coding.put_tick()?;
     let mut arguments = Items::new(walk.alloc);
     arguments.push(coding.source(hand, takes)?)?;
     coding.put_call(

@@ -1,6 +1,5 @@
 use Rattle.std.proofs.Common.{refl}
-use Rattle.lowered_pieces.specs.Functions.{ends_code, tick_code}
-use Rattle.lowered_pieces.proofs.Emitting.{emits_before}
+use Rattle.lowered_pieces.specs.Functions.{ends_code}
 use Rattle.lowered_steps.specs.Setting.{kit_for}
 use Rattle.lowered_functions.specs.Made.{mapping_for}
 use Rattle.lowered_functions.proofs.Put.{code_made, emits_behind}
@@ -12,8 +11,7 @@ put_optional-requires c = c.requires.lowered
 pub returns : goal.returns
 returns c =
     code_made c.args.walk.now c.args.given.now c.in_ok-coding.coding c.put_ends.new.coding _ _
-    (λ name. mapping_for c.args.walk.now name c.args.is_called c.args.place c.args.payload.now c.args.clauses.now) c.in_ok-coding.ensures.slots
+    (λ name. mapping_for c.args.walk.now name c.args.place c.args.payload.now c.args.clauses.now) c.in_ok-coding.ensures.slots
     c.in_ok-coding.ensures.code c.in_ok-coding.ensures.labels (λ name. refl)
-    (emits_before c.in_ok-coding.coding c.put_ticked.new.coding c.put_ends.new.coding (λ name. tick_code c.args.is_called) _ _ c.in_ok-put_ticked.ensures
-    (emits_behind c.put_ticked.new.coding c.put_optional.new.coding c.put_ends.new.coding _ (λ name. ends_code (kit_for c.args.walk.now.setting.now name)
-    c.args.place) _ c.in_ok-put_optional.ensures c.in_ok-put_ends.ensures))
+    (emits_behind c.in_ok-coding.coding c.put_optional.new.coding c.put_ends.new.coding _ (λ name. ends_code (kit_for c.args.walk.now.setting.now name)
+    c.args.place) _ c.in_ok-put_optional.ensures c.in_ok-put_ends.ensures)

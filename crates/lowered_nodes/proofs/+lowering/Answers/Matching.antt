@@ -19,7 +19,7 @@ use Rattle.lowered_pieces.specs.Forms.{Piece, enter_code, inner, inside_piece}
 use Rattle.lowered_pieces.specs.Mapped.{with_ends}
 use Rattle.lowered_pieces.specs.Places.{Naming}
 use Rattle.lowered_steps.specs.Hands.{hand_of as hand_so_far, matched_of, types_of}
-use Rattle.lowered_steps.specs.Setting.{kit_for, nodes_in, number_for, reads_at, size_for, tables_for}
+use Rattle.lowered_steps.specs.Setting.{crosses_for, kit_for, nodes_in, number_for, reads_at, size_for, tables_for}
 use Rattle.lowered_steps.specs.Stands.{named_of, stand_of}
 use Rattle.lowered_steps.specs.Tails.{tail_of}
 use Rattle.lowered_steps.specs.declared.stands.Named.{Named}
@@ -165,7 +165,8 @@ put_try-put_inside-requires t c =
     let walk = c.args.walk.now in let setting = walk.setting.now in (
       omega (arith, c.decreases),
       λ name. (and_parts (node_ok walk name c.args.value.now)
-          (arms_fit (size_for setting) (reads_at setting.reads.now) c.args.arms.now && all_lowered_for walk name c.args.bodies.now) (c.requires name)).0,
+          (arms_fit (size_for setting) (crosses_for setting) (reads_at setting.reads.now) c.args.arms.now
+          && all_lowered_for walk name c.args.bodies.now) (c.requires name)).0,
     )
 
 pub put_try-put_first-requires : goal.arms::put_try-put_first-requires
@@ -173,9 +174,11 @@ put_try-put_first-requires t c =
     let walk = c.args.walk.now in let setting = walk.setting.now in (
       omega (arith, c.decreases, mass_some c.args.value.now),
       λ name. (and_parts
-          (arms_fit (size_for setting) (reads_at setting.reads.now) c.args.arms.now) (all_lowered_for walk name c.args.bodies.now) (and_parts (node_ok walk
+          (arms_fit (size_for setting) (crosses_for setting) (reads_at setting.reads.now) c.args.arms.now)
+          (all_lowered_for walk name c.args.bodies.now) (and_parts (node_ok walk
           name c.args.value.now)
-          (arms_fit (size_for setting) (reads_at setting.reads.now) c.args.arms.now && all_lowered_for walk name c.args.bodies.now) (c.requires name)).1).1,
+          (arms_fit (size_for setting) (crosses_for setting) (reads_at setting.reads.now) c.args.arms.now
+          && all_lowered_for walk name c.args.bodies.now) (c.requires name)).1).1,
     )
 
 pub put_clauses-put_first-requires : goal.arms::put_clauses-put_first-requires
@@ -187,7 +190,8 @@ put_clauses-put_first-requires t c =
             c.as_slice-2.ensures,
         c.decreases,
       ),
-      λ name. ap (λ (cs : List Core). all_lowered_for walk name cs) c.as_slice-2.ensures ∙ (and_parts (arms_fit (size_for setting) (reads_at
+      λ name. ap (λ (cs : List Core). all_lowered_for walk name cs) c.as_slice-2.ensures
+          ∙ (and_parts (arms_fit (size_for setting) (crosses_for setting) (reads_at
           setting.reads.now) c.args.arms.now) (all_lowered_for walk name (out-Core node).parts) (c.requires name)).1,
     )
 
