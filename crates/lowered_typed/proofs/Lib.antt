@@ -7,3 +7,4 @@ pub mod Shells
 pub mod Said
 pub mod More
 pub mod Written
+pub mod Onward

@@ -119,6 +119,11 @@ module _ (j : Judge) where
   block_none (S.Declare name written) ss = refl
   block_none (S.Define place arm) ss = refl
 
+  pub block_past : (ss : List Statement) (k : ℕ) → k < length ss → false ≡ here.block_right j (drop k ss) []
+  block_past [] k lt = absurd (omega (arith, lt))
+  block_past (s ∷ ss) zero lt = block_none s ss
+  block_past (s ∷ ss) (suc k) lt = block_past ss k (omega (arith, lt))
+
   pub block_more : (s : Statement) (ss : List Statement) (a : Typing) (ps : List Typing)
       → (a.right && (statement_asked j s a && here.block_right j ss ps)) ≡ here.block_right j (s ∷ ss) (a ∷ ps)
   block_more S.Evaluate ss a ps = refl

@@ -177,6 +177,9 @@ module _ (j : Judge) where
   abbrev pub typ_at_hand : List Sized → ℕ → Sized
   typ_at_hand = typing.typ_at_hand j.setting.now.types.now (number_here j) (callees_here j) (tables_here j) (signs_here j)
 
+  abbrev pub sees_right : ℕ → Sized → Bool
+  sees_right = typing.sees_right j.setting.now.types.now (number_here j) (callees_here j) (tables_here j) (signs_here j)
+
   abbrev pub step_types : Step → List Sized → List Sized
   step_types = typing.step_types j.setting.now.types.now (number_here j) (callees_here j) (tables_here j) (signs_here j)
 

@@ -36,7 +36,8 @@ use Rattle.jib.specs.Operands.{some_comparable}
 use Rattle.jib.specs.Typing.{payload_typ, same, sort_at}
 use Rattle.sail_core.specs.Patterns.{known_sum, solved}
 use Rattle.lowered_pieces.specs.Arms.{constant_of, is_union, part_width, word_width}
-use Rattle.lowered_pieces.specs.Forms.{End, Mapped, ends_of, in_fields, in_order, is_never, set_fields}
+use Rattle.lowered_pieces.specs.Places.{Mapped}
+use Rattle.lowered_pieces.specs.Forms.{End, ends_of, in_fields, in_order, is_never, set_fields}
 use Rattle.lowered_pieces.specs.Gathered.{only_end}
 use Rattle.lowered_pieces.specs.Writes.{Cell as Aim, Spot, called, one, several, target_spot}
 use Rattle.lowered_steps.specs.Cells.{holder_in}

@@ -1,12 +1,13 @@
 -- What is around the code of a function, as the code that decides of it holds it.
-use Rattle.std.specs.Prelude.{ℕ, nat_le, Bool, false, List, Option, Some, None, slice_get, if◌then◌else◌}
+use Rattle.std.specs.Prelude.{ℕ, nat_le, nat_lt, Bool, false, ◌&&◌, List, Option, Some, None, slice_get, if◌then◌else◌}
 use Rattle.sail_core.specs.declared.tree.Core.{Core}
 use Rattle.sail_core.specs.declared.patterns.Arm.{Arm}
 use Rattle.size_values.specs.declared.sized.Sized.{Sized}
 use Rattle.sized_nodes.specs.declared.trees.Case.{Case}
 use Rattle.lowered_pieces.specs.Forms.{Callees}
 use Rattle.lowered_pieces.specs.Tables.{Tables}
-use Rattle.lowered_steps.specs.Setting.{number_for, tables_for}
+use Rattle.lowered_steps.specs.declared.setting.Setting.{Setting}
+use Rattle.lowered_steps.specs.Setting.{number_for, tables_for, ways_for}
 use Rattle.lowered_ends.specs.Around.{callees_of}
 use Rattle.lowered_validity.specs.Right.{Signs}
 use Rattle.lowered_validity.specs.Typing.{Typing, arm_right, cases_right, typing}
@@ -19,14 +20,18 @@ abbrev pub parameters_in : ℕ → Option Called → Option (List ℕ)
 parameters_in cycle None = None
 parameters_in cycle (Some c) = if nat_le c.cycle cycle then Some c.parameters else None
 
--- of a direction of a mapping, which may be called where it is made, and is of the same cycle or a lower one
+-- of a direction of a mapping, which may be asked where it is made, and is of the same cycle or a lower one
 abbrev pub turned_in : ℕ → Option (Option ℕ) → Bool
 turned_in cycle None = false
 turned_in cycle (Some None) = false
 turned_in cycle (Some (Some n)) = nat_le n cycle
 
-abbrev pub signs_of : SignsHeld → Signs
-signs_of s = record {
+-- and where its function has a lower number than this one
+abbrev pub is_asked : Setting → SignsHeld → ℕ → Bool
+is_asked setting s d = turned_in s.cycle (slice_get s.turned.now d) && nat_lt (ways_for setting d).function s.below
+
+abbrev pub signs_of : Setting → SignsHeld → Signs
+signs_of setting s = record {
   table = s.shell.now.types;
   exception = s.shell.now.exception;
   registers = s.shell.now.registers;
@@ -34,7 +39,7 @@ signs_of s = record {
   result = s.result;
   is_pure = s.is_pure;
   parameters = λ p. parameters_in s.cycle (slice_get s.called.now p);
-  directions = λ d. turned_in s.cycle (slice_get s.turned.now d);
+  directions = is_asked setting s;
 }
 
 module _ (j : Judge) where
@@ -48,7 +53,7 @@ module _ (j : Judge) where
   tables_here = tables_for j.setting.now j.around.now.instances.now
 
   abbrev pub signs_here : Signs
-  signs_here = signs_of j.signs.now
+  signs_here = signs_of j.setting.now j.signs.now
 
   abbrev pub typed : Core → Typing
   typed = typing j.setting.now.types.now number_here callees_here tables_here signs_here

@@ -2,14 +2,16 @@
 ghost use Rattle.std.specs.Prelude.{◌≡◌, ◌++◌, IfOk, OnOk};
 ghost use Rattle.lowered_pieces.specs.Arms.{steps_in};
 ghost use Rattle.lowered_steps.specs.Hands.{types_of};
+ghost use Rattle.lowered_steps.specs.Setting.{number_for, ways_for};
 ghost use Rattle.lowered_pieces.specs.Forms.{cases_ends};
 ghost use Rattle.lowered_typed.specs.Here as here;
 ghost use Rattle.lowered_typed.specs.Judged as judged;
 
+use crate::calls::may_turn;
 use crate::cases::is_known;
 use crate::heads::{is_head, push_head};
 use crate::signs::Judge;
-use crate::works::{are_small, both, joined};
+use crate::works::{are_small, both, comes, joined};
 use lowered_steps::Ends;
 use sail_base::{Items, Text};
 use sail_core::{Arm, Step};
@@ -49,6 +51,40 @@ fn at_hand(judge: &Judge<'_>, types: &[Sized], value: u32) -> Result<Sized, Allo
     }
 }
 
+/// The number of the type that a direction takes. It fails where there are 2^32 types or more.
+fn taken_number(judge: &Judge<'_>, direction: u32) -> Result<u32, AllocError>
+    ensures { IfOk result (λ number. number ≡ number_for judge.now.setting.now (ways_for judge.now.setting.now direction).takes) }
+{
+    match judge.setting.direction(direction) {
+        Some(mapped) => judge.setting.number(&mapped.takes),
+        None => judge.setting.number(&Sized::Never),
+    }
+}
+
+/// The type of the option that a direction gives. It fails where memory is wanting.
+fn given_option(judge: &Judge<'_>, direction: u32) -> Result<Sized, AllocError>
+    ensures { IfOk result (λ typ. typ ≡ (ways_for judge.now.setting.now direction).gives) }
+{
+    match judge.setting.direction(direction) {
+        Some(mapped) => copy_sized(judge.alloc, &mapped.gives),
+        None => Ok(Sized::Never),
+    }
+}
+
+/// Whether a direction may be asked with a value of this type. It fails where there are 2^32 types or more.
+fn may_see(judge: &Judge<'_>, direction: u32, typ: &Sized) -> Result<bool, AllocError>
+    ensures { IfOk result (λ answer. answer ≡ here.sees_right judge.now direction typ.now) }
+{
+    let first = !judge.signs.is_pure;
+    let one = may_turn(judge, direction);
+    let from = judge.setting.number(typ)?;
+    let to = taken_number(judge, direction)?;
+    let other = comes(judge, from, to);
+    let rest = both(one, other);
+    let all = both(first, rest);
+    Ok(all)
+}
+
 /// Whether a step of an arm fits, where its values have these types. It fails where memory is wanting.
 fn is_step(judge: &Judge<'_>, step: &Step, types: &[Sized]) -> Result<bool, AllocError>
     ensures { IfOk result (λ answer. answer ≡ here.step_right judge.now step.now types.now) }
@@ -59,7 +95,10 @@ fn is_step(judge: &Judge<'_>, step: &Step, types: &[Sized]) -> Result<bool, Allo
             is_head(judge, &whole, head, *count)
         }
         Step::Names(_, _) => Ok(true),
-        Step::Sees(_, _) => Ok(true),
+        Step::Sees(value, direction) => {
+            let whole = at_hand(judge, types, *value)?;
+            may_see(judge, *direction, &whole)
+        }
     }
 }
 
@@ -78,7 +117,10 @@ fn push_step(
             push_head(judge, &whole, head, *count, parts)
         }
         Step::Names(_, _) => Ok(()),
-        Step::Sees(_, _) => Ok(()),
+        Step::Sees(_, direction) => {
+            let option = given_option(judge, *direction)?;
+            parts.push(option)
+        }
     }
 }
 
@@ -173,30 +215,26 @@ pub fn is_end_typed(judge: &Judge<'_>, arm: &Arm, ends: &Ends<'_>) -> Result<boo
 pub fn are_ends_typed(judge: &Judge<'_>, arms: &[Arm], ends: &Ends<'_>) -> Result<bool, AllocError>
     ensures { IfOk result (λ answer. answer ≡ judged.all_end_right judge.now arms.now (types_of ends.now)) }
 {
-    match arms {
-        [] => Ok(true),
-        [first, rest @ ..] => {
-            let one = is_end_typed(judge, first, ends)?;
-            let other = are_ends_typed(judge, rest, ends)?;
-            let all = both(one, other);
-            Ok(all)
+    for arm in arms {
+        let one = is_end_typed(judge, arm, ends)?;
+        if !one {
+            return Ok(false);
         }
     }
+    Ok(true)
 }
 
 /// Whether arms fit values of these types. It fails where memory is wanting.
 pub fn are_arms_typed(judge: &Judge<'_>, arms: &[Arm], given: &[Sized]) -> Result<bool, AllocError>
     ensures { IfOk result (λ answer. answer ≡ judged.all_given_right judge.now arms.now given.now) }
 {
-    match arms {
-        [] => Ok(true),
-        [first, rest @ ..] => {
-            let one = is_arm_typed(judge, first, given)?;
-            let other = are_arms_typed(judge, rest, given)?;
-            let all = both(one, other);
-            Ok(all)
+    for arm in arms {
+        let one = is_arm_typed(judge, arm, given)?;
+        if !one {
+            return Ok(false);
         }
     }
+    Ok(true)
 }
 
 /// The type of what a name holds, the first that is so called, where the values of an arm begin with these types; none where there is no such name. It fails

@@ -1,11 +1,12 @@
 //! Whether calls fit their cases: of functions, builtins, constructors, and directions of mappings.
-ghost use Rattle.std.specs.Prelude.{◌≡◌, IfOk};
+ghost use Rattle.std.specs.Prelude.{◌≡◌, nat_lt, slice_get, IfOk};
 ghost use Rattle.lowered_pieces.specs.Forms.{cases_ends};
 ghost use Rattle.lowered_pieces.specs.Gathered.{only_end};
 ghost use Rattle.lowered_steps.specs.Hands.{types_of};
-ghost use Rattle.lowered_ends.specs.Around.{mapped_of};
+ghost use Rattle.lowered_steps.specs.Setting.{mapped_of, ways_for};
 ghost use Rattle.lowered_typed.specs.Here as here;
 ghost use Rattle.lowered_typed.specs.Judged as judged;
+ghost use Rattle.lowered_typed.specs.Judging.{is_asked, turned_in};
 
 use crate::cases::{Asked, Order, are_as_asked, are_leads, is_known};
 use crate::ends::{first_ends, push_operand_types};
@@ -13,8 +14,7 @@ use crate::heads::has_payload;
 use crate::signs::Judge;
 use crate::works::{both, comes, operands_from, works};
 use jib::{Operation, has_state};
-use lowered_ends::Mapped;
-use lowered_steps::Ends;
+use lowered_steps::{Ends, Mapped};
 use sail_base::Items;
 use sail_core::{Callee, Core};
 use sail_types::Row;
@@ -132,9 +132,9 @@ fn is_mapped(
     Ok(all)
 }
 
-/// Whether a direction may be called from here.
-fn may_turn(judge: &Judge<'_>, direction: u32) -> bool
-    ensures { result ≡ judged.may_turn judge.now direction }
+/// Whether a direction is made, and is of the same cycle or a lower one.
+fn is_made(judge: &Judge<'_>, direction: u32) -> bool
+    ensures { result ≡ turned_in judge.now.signs.now.cycle (slice_get judge.now.signs.now.turned.now direction) }
 {
     match judge.signs.turned.get(direction as usize) {
         Some(turned) => match turned {
@@ -143,6 +143,25 @@ fn may_turn(judge: &Judge<'_>, direction: u32) -> bool
         },
         None => false,
     }
+}
+
+/// Whether its function has a lower number than this one.
+fn is_before(judge: &Judge<'_>, direction: u32) -> bool
+    ensures { result ≡ nat_lt (ways_for judge.now.setting.now direction).function judge.now.signs.now.below }
+{
+    match judge.setting.direction(direction) {
+        Some(mapped) => mapped.function < judge.signs.below,
+        None => 0 < judge.signs.below,
+    }
+}
+
+/// Whether a direction may be asked from here.
+pub fn may_turn(judge: &Judge<'_>, direction: u32) -> bool
+    ensures { result ≡ is_asked judge.now.setting.now judge.now.signs.now direction }
+{
+    let one = is_made(judge, direction);
+    let other = is_before(judge, direction);
+    both(one, other)
 }
 
 /// Whether a call of a direction fits, which may be called. It fails where memory is wanting.
@@ -154,7 +173,7 @@ fn is_turned(
 ) -> Result<bool, AllocError>
     ensures { IfOk result (λ answer. answer ≡ judged.turned_asked judge.now direction node (judged.all_here judge.now parts.now)) }
 {
-    match judge.around.directions.get(direction as usize) {
+    match judge.setting.direction(direction) {
         Some(mapped) => {
             let ends = first_ends(judge, parts)?;
             is_mapped(judge, mapped, judge.setting.cases(node, 1), &ends)

@@ -1,5 +1,5 @@
 //! Whether the code of a node has its types.
-ghost use Rattle.std.specs.Prelude.{◌≡◌, [], IfOk};
+ghost use Rattle.std.specs.Prelude.{◌≡◌, ◌&&◌, [], drop, IfOk};
 ghost use Rattle.lowered_steps.specs.Setting.{reads_at};
 ghost use Rattle.lowered_validity.specs.Typing as typing;
 ghost use Rattle.lowered_typed.specs.Here as here;
@@ -23,15 +23,13 @@ use std::alloc::AllocError;
 fn are_typed(judge: &Judge<'_>, nodes: &[Core]) -> Result<bool, AllocError>
     ensures { IfOk result (λ answer. answer ≡ typing.all_right (judged.all_here judge.now nodes.now)) }
 {
-    match nodes {
-        [] => Ok(true),
-        [first, rest @ ..] => {
-            let one = is_typed(judge, first)?;
-            let other = are_typed(judge, rest)?;
-            let all = both(one, other);
-            Ok(all)
+    for node in nodes {
+        let one = is_typed(judge, node)?;
+        if !one {
+            return Ok(false);
         }
     }
+    Ok(true)
 }
 
 /// Whether an arm fits the value of a node. It fails where memory is wanting.
@@ -62,6 +60,28 @@ fn is_statement(judge: &Judge<'_>, statement: &Statement, value: &Core) -> Resul
     }
 }
 
+/// Whether the code of the value of a statement has its types, and the statement fits it. It fails where memory is wanting.
+#[cycle(is_typed)]
+fn is_step_typed(judge: &Judge<'_>, statement: &Statement, value: &Core) -> Result<bool, AllocError>
+    ensures { IfOk result (λ answer. answer ≡ ((typed judge.now value.now).right && judged.statement_asked judge.now statement.now (typed judge.now value.now))) }
+{
+    let begins = is_typed(judge, value)?;
+    let one = is_statement(judge, statement, value)?;
+    let all = both(begins, one);
+    Ok(all)
+}
+
+/// The parts of a block behind so many statements.
+fn parts_behind(parts: &[Core], count: usize) -> &[Core]
+    ensures { result.now ≡ drop count parts.now }
+{
+    if count < parts.len() {
+        &parts[count..]
+    } else {
+        &[]
+    }
+}
+
 /// Whether the code of the value of a block has its types, behind all statements. It fails where memory is wanting.
 #[cycle(is_typed)]
 fn is_last_typed(judge: &Judge<'_>, parts: &[Core]) -> Result<bool, AllocError>
@@ -74,7 +94,7 @@ fn is_last_typed(judge: &Judge<'_>, parts: &[Core]) -> Result<bool, AllocError>
     }
 }
 
-/// Whether the code of the rest of a block has its types. It fails where memory is wanting.
+/// Whether the code of a block has its types. It fails where memory is wanting.
 #[cycle(is_typed)]
 fn is_block_typed(
     judge: &Judge<'_>,
@@ -83,20 +103,18 @@ fn is_block_typed(
 ) -> Result<bool, AllocError>
     ensures { IfOk result (λ answer. answer ≡ here.block_right judge.now statements.now (judged.all_here judge.now parts.now)) }
 {
-    match statements {
-        [] => is_last_typed(judge, parts),
-        [statement, rest @ ..] => match parts {
-            [] => Ok(false),
-            [first, others @ ..] => {
-                let begins = is_typed(judge, first)?;
-                let one = is_statement(judge, statement, first)?;
-                let other = is_block_typed(judge, rest, others)?;
-                let goes = both(one, other);
-                let all = both(begins, goes);
-                Ok(all)
+    for at in 0..statements.len() {
+        match parts.get(at) {
+            Some(value) => {
+                let one = is_step_typed(judge, &statements[at], value)?;
+                if !one {
+                    return Ok(false);
+                }
             }
-        },
+            None => return Ok(false),
+        }
     }
+    is_last_typed(judge, parts_behind(parts, statements.len()))
 }
 
 /// Whether the code of the parts of a kind has its types. It fails where memory is wanting.

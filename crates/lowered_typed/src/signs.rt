@@ -31,6 +31,8 @@ pub struct Signs<'a> {
     pub called: &'a [Called],
     /// The numbers of the cycles of directions of mappings, where they are made.
     pub turned: &'a [Option<u32>],
+    /// It may ask the directions the functions of which have lower numbers than this one.
+    pub below: u32,
 }
 
 /// What it is decided by whether code has its types.

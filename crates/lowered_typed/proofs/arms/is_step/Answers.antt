@@ -13,5 +13,8 @@ returns-in_ok-whole-in-Opens c =
 pub returns-in-Names : goal.returns-in-Names
 returns-in-Names c = ap (λ (s : Step). here.step_right c.args.judge.now s c.args.types.now) (sym c.in-Names.is)
 
-pub returns-in-Sees : goal.returns-in-Sees
-returns-in-Sees c = ap (λ (s : Step). here.step_right c.args.judge.now s c.args.types.now) (sym c.in-Sees.is)
+pub returns-in_ok-whole-in-Sees : goal.returns-in_ok-whole-in-Sees
+returns-in_ok-whole-in-Sees c =
+    IfOk-weaker c.may_see.result _ (λ (a : Bool). a ≡ here.step_right c.args.judge.now c.args.step.now c.args.types.now) (λ a e. e
+    ∙ ap (λ t. here.sees_right c.args.judge.now c.in-Sees.direction t) c.in_ok-whole-in-Sees.ensures
+    ∙ ap (λ (s : Step). here.step_right c.args.judge.now s c.args.types.now) (sym c.in-Sees.is)) c.may_see.ensures

@@ -1,4 +1,4 @@
-use Rattle.std.proofs.Common.{◌≡◌, ◌∙◌, ◌++◌, sym, ap}
+use Rattle.std.proofs.Common.{◌≡◌, ◌∙◌, ◌∷◌, ◌++◌, sym, ap, []}
 use Rattle.lowered_typed.proofs.Pushed.{none}
 use Rattle.sail_core.specs.declared.patterns.Step.{Step}
 use Rattle.std.proofs.lemmas.Result.{on_ok_weaker}
@@ -18,7 +18,8 @@ returns-in-Names c =
     none c.args.parts.now (here.step_types c.args.judge.now c.args.step.now c.args.types.now) (ap
     (λ (s : Step). here.step_types c.args.judge.now s c.args.types.now) c.in-Names.is)
 
-pub returns-in-Sees : goal.returns-in-Sees
-returns-in-Sees c =
-    none c.args.parts.now (here.step_types c.args.judge.now c.args.step.now c.args.types.now) (ap
-    (λ (s : Step). here.step_types c.args.judge.now s c.args.types.now) c.in-Sees.is)
+pub returns-in_ok-option-in-Sees : goal.returns-in_ok-option-in-Sees
+returns-in_ok-option-in-Sees c =
+    on_ok_weaker c.push.result (λ (e : c.push.new.self ≡ c.args.parts.now ++ c.in_ok-option-in-Sees.option ∷ []). e
+    ∙ ap (λ t. c.args.parts.now ++ t ∷ []) c.in_ok-option-in-Sees.ensures
+    ∙ ap (λ (s : Step). c.args.parts.now ++ here.step_types c.args.judge.now s c.args.types.now) (sym c.in-Sees.is)) c.push.ensures.pushed

@@ -1,7 +1,7 @@
 use Rattle.std.proofs.Common.{◌≡◌, ◌∙◌, Bool, None, sym, ap}
-use Rattle.lowered_ends.specs.Around.{direction_in, mapped_of}
+use Rattle.std.specs.Option.{option_copied}
 use Rattle.lowered_pieces.specs.Gathered.{only_end}
-use Rattle.lowered_steps.proofs.Lists.{got_item, got_none}
+use Rattle.lowered_steps.specs.Setting.{direction_in, mapped_of}
 use Rattle.std.proofs.lemmas.Result.{IfOk-weaker}
 use Rattle.lowered_typed.specs.Judged as judged
 use Rattle.lowered_typed.proofs.calls.is_turned.Goals as goal
@@ -14,8 +14,7 @@ returns-in_ok-ends-in-Some c =
     (c.in_ok-ends-in-Some.ensures i)))
     ∙ ap (λ o. judged.mapped_asked c.args.judge.now (direction_in o) (judged.cases_at c.args.judge.now c.args.node 1) (only_end (judged.first_ends
     (judged.all_here c.args.judge.now c.args.parts.now)))) (sym
-    (got_item c.args.judge.now.around.now.directions.now c.args.direction c.in-Some.mapped.now c.in-Some.ensures.lookup.0
-    c.in-Some.ensures.lookup.1))) c.is_mapped.ensures
+    (sym c.direction.ensures ∙ ap option_copied c.in-Some.is))) c.is_mapped.ensures
 
 pub returns-in_ok-ends-in-None : goal.returns-in_ok-ends-in-None
 returns-in_ok-ends-in-None c =
@@ -25,4 +24,4 @@ returns-in_ok-ends-in-None c =
     (c.in_ok-ends-in-None.ensures i)))
     ∙ ap (λ o. judged.mapped_asked c.args.judge.now (direction_in o) (judged.cases_at c.args.judge.now c.args.node 1) (only_end (judged.first_ends
     (judged.all_here c.args.judge.now c.args.parts.now)))) (sym
-    (got_none c.args.judge.now.around.now.directions.now c.args.direction c.in-None.ensures.lookup.0))) c.is_mapped-in-None.ensures
+    (sym c.direction.ensures ∙ ap option_copied c.in-None.is))) c.is_mapped-in-None.ensures
