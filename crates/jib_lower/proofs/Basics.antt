@@ -20,14 +20,14 @@ use Rattle.jib.specs.declared.types.ValueType.{ValueType}
 use Rattle.lowered_types.specs.Table.{TypesStand, form_never, form_value, is_known, type_in}
 use Rattle.lowered_types.proofs.Standing.{found, known_lt}
 use Rattle.lowered_laws.specs.Standing.{Types as Basic}
-use Rattle.lowered_pieces.specs.Places.{Kit, Naming}
+use Rattle.lowered_pieces.specs.Places.{Kit, Mapped, Naming}
 use Rattle.lowered_pieces.specs.Lowering.{kit_of}
 use Rattle.lowered_slots.specs.declared.slots.Slot.{Slot}
 use Rattle.lowered_slots.specs.declared.slots.Place.{Place}
 use Rattle.lowered_slots.specs.Slots.{name_in}
 use Rattle.lowered_slots.specs.Laws.{SlotsTyped}
 use Rattle.lowered_steps.specs.declared.setting.Setting.{Setting}
-use Rattle.lowered_steps.specs.Setting.{kit_for, number_for, size_for}
+use Rattle.lowered_steps.specs.Setting.{kit_for, number_for, size_for, ways_for}
 
 -- ---- truths
 
@@ -79,9 +79,9 @@ module _ (types : Types) (ss : List Sized) (ts : List ValueType) (stands : Types
       stands.each (type_in ss t) t (found ss t (known_lt ss t known (ap form_never e ∙ never)))
       ∙ ap (λ y. Some (form_value types (type_in ss) y)) e
 
-  pub basic_of : (name : Naming) (exception : ℕ) (size : Num → Option ℤ) → is_known ss S.Unit ≡ true → is_known ss S.Bool ≡ true → is_known ss S.Int ≡ true
-      → Basic ts (kit_of types name (type_in ss) exception size)
-  basic_of name exception size u b i = record {
+  pub basic_of : (name : Naming) (exception : ℕ) (size : Num → Option ℤ) (ways : ℕ → Mapped) → is_known ss S.Unit ≡ true → is_known ss S.Bool ≡ true
+      → is_known ss S.Int ≡ true → Basic ts (kit_of types name (type_in ss) exception size ways)
+  basic_of name exception size ways u b i = record {
     truth = ap (λ s. slice_get ts (type_in ss s)) (truth_typ types) ∙ value_at S.Bool Z.Bool out_bool refl b;
     integer = ap (λ s. slice_get ts (type_in ss s)) (integer_typ types) ∙ value_at S.Int Z.Int out_int refl i;
     unit = ap (λ s. slice_get ts (type_in ss s)) (nothing_typ types) ∙ value_at S.Unit Z.Unit out_unit refl u;
@@ -102,11 +102,12 @@ module _ (setting : Setting) (name : Naming) (exception : ℕ) where
     truths = t;
     depth = λ x. 0;
     size = size_for setting;
+    ways = ways_for setting;
   }
 
   pub kit_same : setting.nothing.now ≡ S.Unit → setting.truths.now ≡ S.Bool → setting.unit ≡ number_for setting S.Unit
       → setting.truth ≡ number_for setting S.Bool → setting.integer ≡ number_for setting S.Int → setting.exception ≡ exception
-      → kit_for setting name ≡ kit_of setting.types.now name (number_for setting) exception (size_for setting)
+      → kit_for setting name ≡ kit_of setting.types.now name (number_for setting) exception (size_for setting) (ways_for setting)
   kit_same n t u b i e =
       ap (λ x. kit_with x setting.truth setting.integer setting.exception setting.nothing.now setting.truths.now)
       (u ∙ ap (number_for setting) (sym (nothing_typ setting.types.now)))

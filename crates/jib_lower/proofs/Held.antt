@@ -19,7 +19,7 @@ use Rattle.lowered_pieces.specs.Arms.{payload_taken, rest_at, skipped, step_hand
 use Rattle.lowered_pieces.specs.Forms.{Named}
 use Rattle.lowered_pieces.specs.Places.{Kit, Naming}
 use Rattle.lowered_laws.specs.Opened.{held_typ}
-use Rattle.lowered_steps.specs.Setting.{kit_for}
+use Rattle.lowered_steps.specs.Setting.{kit_for, ways_for}
 use Rattle.lowered_typed.specs.declared.signs.Judge.{Judge}
 use Rattle.lowered_typed.specs.Here as here
 
@@ -157,7 +157,7 @@ module _ (j : Judge) (naming : Naming) where
         stays ss (step_hand types kit (P.Names i name) hand fail) t
         (sooner hand.names (record { name = name; place = (at_hand types kit hand.values i).place } ∷ []) hand.named (at_hand types kit hand.values i ∷ [])
         text t e)
-    stays (P.Sees d i ∷ ss) hand t e = stays ss (step_hand types kit (P.Sees d i) hand fail) t e
+    stays (P.Sees i d ∷ ss) hand t e = stays ss (step_hand types kit (P.Sees i d) hand fail) t e
 
     joined_typs : (hs ks : List Held) (ts us : List Sized) → typs hs ≡ ts → typs ks ≡ us → typs (hs ++ ks) ≡ ts ++ us
     unfolding typs
@@ -199,8 +199,9 @@ module _ (j : Judge) (naming : Naming) where
             stays ss next t
             (one ∙ ap (λ b. if b then Some h.typ else None) is ∙ ap (λ u. Some u) (hand_typ hand.values i ∙ ap (λ us. here.typ_at_hand j us i) v) ∙ e)
         by false is e rest = rest (one ∙ ap (λ b. if b then Some h.typ else None) is) e
-    finds (P.Sees d i ∷ ss) hand ts t l v n e =
-        finds ss (step_hand types kit (P.Sees d i) hand fail) (ts ++ []) t l (joined_typs hand.values [] ts [] v refl) n e
+    finds (P.Sees i d ∷ ss) hand ts t l v n e =
+        finds ss (step_hand types kit (P.Sees i d) hand fail) (ts ++ (ways_for j.setting.now d).gives ∷ []) t l
+        (joined_typs hand.values (held_at hand.free (kit.ways d).gives ∷ []) ts ((ways_for j.setting.now d).gives ∷ []) v refl) n e
 
   -- what is found for a name of a let
   pub holds : (ss : List Step) (whole : Sized) (text : List ℕ) (t : Sized) → j.setting.now.nothing.now ≡ fixed_typ types T.Unit

@@ -82,46 +82,6 @@ module _ (ss us : List Sized) (more : Begins ss us) where
       also (is_known ss (fixed_typ types r.typ)) (all_in_registers types ss rs) (is_known us (fixed_typ types r.typ)) (all_in_registers types us rs)
       (known_stays (fixed_typ types r.typ)) (registers_stay types rs) h
 
--- ---- one more, where what comes behind it keeps its numbers
-
-pub cases_next : (us vs ws : List Sized) (c : Case) (cs : List Case) → Begins us vs → Begins vs ws → all_known us c.takes ≡ true → is_known vs c.gives ≡ true
-    → all_in_cases ws cs ≡ true → all_in_cases ws (c ∷ cs) ≡ true
-cases_next us vs ws c cs a b takes gives h =
-    both (all_known ws c.takes) (is_known ws c.gives && all_in_cases ws cs) (all_stay vs ws b c.takes (all_stay us vs a c.takes takes))
-    (both (is_known ws c.gives) (all_in_cases ws cs) (known_stays vs ws b c.gives gives) h)
-
-pub leads_next : (us ws : List Sized) (x : Lead) (xs : List Lead) → Begins us ws → all_known us x.takes ≡ true → all_in_leads ws xs ≡ true
-    → all_in_leads ws (x ∷ xs) ≡ true
-leads_next us ws x xs a takes h = both (all_known ws x.takes) (all_in_leads ws xs) (all_stay us ws a x.takes takes) h
-
-pub makes_next : (us ws : List Sized) (cs : List Case) (nodes : List NodeSizes) → Begins us ws → all_in_cases us cs ≡ true → all_in_nodes ws nodes ≡ true
-    → (all_in_cases ws cs && all_in_nodes ws nodes) ≡ true
-makes_next us ws cs nodes a k h = both (all_in_cases ws cs) (all_in_nodes ws nodes) (cases_stay us ws a cs k) h
-
-pub calls_next : (us ws : List Sized) (xs : List Lead) (nodes : List NodeSizes) → Begins us ws → all_in_leads us xs ≡ true → all_in_nodes ws nodes ≡ true
-    → (all_in_leads ws xs && all_in_nodes ws nodes) ≡ true
-calls_next us ws xs nodes a k h = both (all_in_leads ws xs) (all_in_nodes ws nodes) (leads_stay us ws a xs k) h
-
-pub bodies_next : (us ws : List Sized) (nodes : List NodeSizes) (bodies : List (List NodeSizes)) → Begins us ws → all_in_nodes us nodes ≡ true
-    → all_in_bodies ws bodies ≡ true → all_in_bodies ws (nodes ∷ bodies) ≡ true
-bodies_next us ws nodes bodies a k h = both (all_in_nodes ws nodes) (all_in_bodies ws bodies) (nodes_stay us ws a nodes k) h
-
-pub told_next : (us ws : List Sized) (t : Told) (ts : List Told) → Begins us ws → all_in_cases us t.cases ≡ true → all_in_told ws ts ≡ true
-    → all_in_told ws (t ∷ ts) ≡ true
-told_next us ws t ts a k h = both (all_in_cases ws t.cases) (all_in_told ws ts) (cases_stay us ws a t.cases k) h
-
-pub instances_next : (us vs ws : List Sized) (x : SizedInstance) (xs : List SizedInstance) → Begins us vs → Begins vs ws → in_signature us x.signature ≡ true
-    → all_in_bodies vs x.bodies ≡ true → all_in_instances ws xs ≡ true → all_in_instances ws (x ∷ xs) ≡ true
-instances_next us vs ws x xs a b s k h =
-    both (in_signature ws x.signature) (all_in_bodies ws x.bodies && all_in_instances ws xs)
-    (signature_stays vs ws b x.signature (signature_stays us vs a x.signature s))
-    (both (all_in_bodies ws x.bodies) (all_in_instances ws xs) (bodies_stay vs ws b x.bodies k) h)
-
-pub registers_next : (types : Types) (us ws : List Sized) (r : Register) (rs : List Register) → Begins us ws → is_known us (fixed_typ types r.typ) ≡ true
-    → all_in_registers types ws rs ≡ true → all_in_registers types ws (r ∷ rs) ≡ true
-registers_next types us ws r rs a k h =
-    both (is_known ws (fixed_typ types r.typ)) (all_in_registers types ws rs) (known_stays us ws a (fixed_typ types r.typ) k) h
-
 -- ---- words
 
 below : (a b c : ℕ) → a ≤ b → b ≤ c → a ≤ c

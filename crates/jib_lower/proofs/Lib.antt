@@ -1,4 +1,5 @@
 pub mod Basics
+pub mod Found
 pub mod Kept
 pub mod Growth
 pub mod Held
@@ -18,6 +19,8 @@ pub mod Bodied
 pub mod Taken
 pub mod Flattened
 pub mod Reaching
+pub mod Rounded
+pub mod Rounding
 pub mod Crossed
 pub mod Ways
 pub mod Wayed
@@ -28,3 +31,4 @@ pub mod Trees
 pub mod Reading
 pub mod Told
 pub mod Unmade
+pub mod Gathered

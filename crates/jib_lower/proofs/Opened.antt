@@ -32,7 +32,7 @@ use Rattle.lowered_pieces.specs.Places.{Kit, Naming}
 use Rattle.lowered_pieces.specs.Tables.{Tables}
 use Rattle.lowered_steps.specs.declared.setting.Reads.{Reads}
 use Rattle.lowered_steps.specs.declared.setting.Setting.{Setting}
-use Rattle.lowered_steps.specs.Setting.{kit_for, number_for, size_for, tables_for}
+use Rattle.lowered_steps.specs.Setting.{kit_for, number_for, size_for, tables_for, ways_for}
 use Rattle.lowered_ends.specs.declared.around.Around.{Around}
 use Rattle.lowered_functions.specs.Walk.{Walk}
 use Rattle.lowered_ends.specs.Around.{callees_of}
@@ -51,7 +51,7 @@ use Rattle.jib_lower.specs.declared.instances.Model.{Model}
 use Rattle.jib_lower.specs.Functions.{FunctionMade}
 use Rattle.jib_lower.specs.Lowered.{FlatFrom, NameMade, NamesMade, OpeningAround, OpeningsMade, ValueMade, named_more, named_none, opened_from, opens_let}
 use Rattle.jib_lower.specs.Lowered.{opens_none, opens_register}
-use Rattle.jib_lower.proofs.Basics.{basic_of, both, get_past, slot_there, some_same, there_below}
+use Rattle.jib_lower.proofs.Basics.{and_left, basic_of, both, slot_there, some_same, there_below}
 use Rattle.jib_lower.proofs.Placing.{LetsThere, basics, exception_here, kit_here, numbered_are, numbered_here, opened_there, stands_here}
 use Rattle.jib_lower.proofs.Standing.{function_is_right}
 
@@ -143,7 +143,7 @@ module _ (core : CoreModel) (sized : SizedCore) (m : Module) (low : FlatFrom cor
       let r = result_at low.opened k t (ap (λ ts. slice_get ts k) (sym types) ∙ e) in
       let lt : k < length low.of_registers =
       subst (λ n. k < n) (sym (opens_many low.bare low.openings)) (there_below low.opened k r.0 r.1) in
-      let o = opened_at low.of_registers (2 * length sized.instances + length low.ways) k lt in
+      let o = opened_at low.of_registers (length low.ways + 2 * length sized.instances) k lt in
       ap (λ os. opening_typ m (slice_get os k)) low.opens ∙ ap (opening_typ m) o.1 ∙ ap (λ n. result_some (slice_get m.functions n)) o.2
       ∙ ap result_some (opened_there core sized m low k r.0 r.1) ∙ ap Some r.2
 
@@ -166,7 +166,7 @@ module _ (core : CoreModel) (sized : SizedCore) (m : Module) (low : FlatFrom cor
       around = walk.around.now
 
       abbrev signs : Signs
-      signs = signs_of judge.signs.now
+      signs = signs_of setting judge.signs.now
 
       abbrev callees : Callees
       callees = callees_of setting around
@@ -193,18 +193,20 @@ module _ (core : CoreModel) (sized : SizedCore) (m : Module) (low : FlatFrom cor
       numbered : Numbered setting.types.now tables setting.numbered.now
       numbered = numbered_here core sized m low low.bare low.bare_is bodies [] setting oa.setting around.instances.now
 
-      kit_is : (name : Naming) → kit_for setting name ≡ kit_of setting.types.now name (number_for setting) signs.exception (size_for setting)
+      kit_is : (name : Naming)
+          → kit_for setting name ≡ kit_of setting.types.now name (number_for setting) signs.exception (size_for setting) (ways_for setting)
       kit_is name = kit_here core sized m low low.bare low.bare_is bodies [] setting oa.setting name signs.exception raised_is
 
-      placed : (f : Made) (coding : Coding) → FunctionMade setting head coding f
-          → Placed setting.types.now setting.numbered.now (type_in setting.numbered.now) callees m f (name_in coding.slots) signs
-      placed f coding is = record {
+      placed : (n : ℕ) (f : Made) (coding : Coding) → FunctionMade setting head coding f
+          → Placed setting.types.now setting.numbered.now (type_in setting.numbered.now) callees m f n (name_in coding.slots) signs
+      placed n f coding is = record {
         named = λ q t lt. ap (λ ts. slice_get ts (name_in coding.slots q t)) is.slots
             ∙ slot_there laws.slots coding.slots q t (subst (λ ts. name_in coding.slots q t < length ts) is.slots lt);
         table = table_is;
         stands = stands_at;
         basic = basic_of setting.types.now setting.numbered.now signs.table stands_at (name_in coding.slots) signs.exception (size_for setting)
-            (known_at S.Unit (basics core sized m low).0) (known_at S.Bool (basics core sized m low).1) (known_at S.Int (basics core sized m low).2);
+            (ways_for setting) (known_at S.Unit (basics core sized m low).0) (known_at S.Bool (basics core sized m low).1)
+            (known_at S.Int (basics core sized m low).2);
         exception = raised_is;
         registers = sym (ap (λ (z : Module). z.registers) oa.shell ∙ low.bare_is.shell_registers);
         lets = λ k t e. let_is f is k t (ap (λ ts. slice_get ts k) (sym oa.lets) ∙ e);
@@ -212,7 +214,10 @@ module _ (core : CoreModel) (sized : SizedCore) (m : Module) (low : FlatFrom cor
         is_pure = is.is_pure ∙ oa.pure ∙ sym oa.is_pure;
         entered = λ q ts d.
             none_is ts (ap (λ (cs : List Called). parameters_in judge.signs.now.cycle (slice_get cs q)) (sym oa.called) ∙ d);
-        directed = λ d h. no (ap (λ (cs : List (Option ℕ)). turned_in judge.signs.now.cycle (slice_get cs d)) (sym oa.turned) ∙ h);
+        directed = λ d h.
+            let turns : Bool = turned_in judge.signs.now.cycle (slice_get judge.signs.now.turned.now d) in
+            no (ap (λ (cs : List (Option ℕ)). turned_in judge.signs.now.cycle (slice_get cs d)) (sym oa.turned)
+            ∙ and_left turns (nat_lt (ways_for setting d).function judge.signs.now.below) h);
       }
         where
           let_is : (f : Made) → FunctionMade setting head coding f → (k t : ℕ) → slice_get before k ≡ Some t → let_typ m f k ≡ Some t
@@ -224,7 +229,7 @@ module _ (core : CoreModel) (sized : SizedCore) (m : Module) (low : FlatFrom cor
       -- code that is right and sets its labels once is that of a valid function
       valid_of : (n : ℕ) (f : Made) (coding : Coding) → FunctionMade setting head coding f → (code : Kit → List Instruction)
           → CodeMade walk coding [] (λ name. code (kit_for setting name))
-          → Ended m f n (code (kit_of setting.types.now (name_in coding.slots) (number_for setting) signs.exception (size_for setting)))
+          → Ended m f n (code (kit_of setting.types.now (name_in coding.slots) (number_for setting) signs.exception (size_for setting) (ways_for setting)))
           → ((kit : Kit) (k : ℕ) → sets k (code kit) ≤ 1) → function_right m n f ≡ true
       valid_of n f coding is code made ended own =
           function_is_right m laws.codes n f setting head coding is
@@ -242,7 +247,7 @@ module _ (core : CoreModel) (sized : SizedCore) (m : Module) (low : FlatFrom cor
     value_is_right n o bodies before names f prefix v =
         valid_of bodies before names v.walk v.judge v.head v.around prefix n f v.coding v.is code v.code
         (laws.values s.types.now s.numbered.now (callees_of s a) (tables_for s a.instances.now) g m f n (name_in v.coding.slots)
-        (placed bodies before names v.walk v.judge v.head v.around prefix f v.coding v.is)
+        (placed bodies before names v.walk v.judge v.head v.around prefix n f v.coding v.is)
         (numbered bodies before names v.walk v.judge v.head v.around prefix) o.place o.value decided)
         (λ kit k. (laws.own s.types.now kit o.place k).0 (number_for s) (callees_of s a) (tables_for s a.instances.now) o.value)
       where
@@ -253,25 +258,25 @@ module _ (core : CoreModel) (sized : SizedCore) (m : Module) (low : FlatFrom cor
         a = v.walk.around.now
 
         g : Signs
-        g = signs_of v.judge.signs.now
+        g = signs_of s v.judge.signs.now
 
         code : Kit → List Instruction
         code kit = event_code kit o.place (piece s.types.now kit (number_for s) (callees_of s a) (tables_for s a.instances.now) o.value)
 
         decides : Setting → Around → Bool
         decides s a =
-            is_value s.types.now s.numbered.now (callees_of s a) (tables_for s a.instances.now) g (name_in v.coding.slots) o.value
+            is_value s.types.now s.numbered.now (callees_of s a) (tables_for s a.instances.now) (signs_of s v.judge.signs.now) (name_in v.coding.slots) o.value
 
         at_judge : decides v.judge.setting.now v.judge.around.now ≡ true
         at_judge =
             let j : Setting = v.judge.setting.now in
             let b : Around = v.judge.around.now in
-            let result : Bool = are_of j.types.now (type_in j.numbered.now) (callees_of j b) (tables_for j b.instances.now) g g.result (v.typ ∷ []) in
-            both (typing j.types.now (type_in j.numbered.now) (callees_of j b) (tables_for j b.instances.now) g o.value).right
-            (are_of j.types.now (type_in j.numbered.now) (callees_of j b) (tables_for j b.instances.now) g g.result
-            (typing j.types.now (type_in j.numbered.now) (callees_of j b) (tables_for j b.instances.now) g o.value).types)
+            let gj : Signs = signs_of j v.judge.signs.now in
+            both (typing j.types.now (type_in j.numbered.now) (callees_of j b) (tables_for j b.instances.now) gj o.value).right
+            (are_of j.types.now (type_in j.numbered.now) (callees_of j b) (tables_for j b.instances.now) gj g.result
+            (typing j.types.now (type_in j.numbered.now) (callees_of j b) (tables_for j b.instances.now) gj o.value).types)
             v.right
-            (ap (are_of j.types.now (type_in j.numbered.now) (callees_of j b) (tables_for j b.instances.now) g g.result) v.only
+            (ap (are_of j.types.now (type_in j.numbered.now) (callees_of j b) (tables_for j b.instances.now) gj g.result) v.only
             ∙ both (nat_eq (type_in j.numbered.now v.typ) g.result) true
             (eq-eqb (type_in j.numbered.now v.typ) g.result
             (ap (λ (z : Setting). type_in z.numbered.now v.typ) v.around.judged.0 ∙ ap (λ xs. type_in xs v.typ) v.around.setting.numbered
@@ -288,7 +293,7 @@ module _ (core : CoreModel) (sized : SizedCore) (m : Module) (low : FlatFrom cor
     name_is_right n place k whole steps text before names f prefix v =
         valid_of [] before names v.walk v.judge v.head v.around prefix n f v.coding v.is code v.code
         (laws.names s.types.now s.numbered.now (callees_of s a) (tables_for s a.instances.now) g m f n (name_in v.coding.slots)
-        (placed [] before names v.walk v.judge v.head v.around prefix f v.coding v.is)
+        (placed [] before names v.walk v.judge v.head v.around prefix n f v.coding v.is)
         (numbered [] before names v.walk v.judge v.head v.around prefix) [] w.place w.opening w.whole.now arm w.name.now w.typ.now decided)
         (λ kit k. (laws.own s.types.now kit w.place k).1 w.opening w.whole.now arm w.name.now w.typ.now)
       where
@@ -299,7 +304,7 @@ module _ (core : CoreModel) (sized : SizedCore) (m : Module) (low : FlatFrom cor
         a = v.walk.around.now
 
         g : Signs
-        g = signs_of v.judge.signs.now
+        g = signs_of s v.judge.signs.now
 
         w : LetName
         w = v.name
@@ -311,7 +316,9 @@ module _ (core : CoreModel) (sized : SizedCore) (m : Module) (low : FlatFrom cor
         code kit = event_code kit w.place (named_piece s.types.now kit [] w.place w.opening w.whole.now arm w.name.now w.typ.now)
 
         decides : Setting → Around → Bool
-        decides z b = arm_right z.types.now (type_in z.numbered.now) (callees_of z b) (tables_for z b.instances.now) g (Flat 0 steps) (whole ∷ [])
+        decides z b =
+            arm_right z.types.now (type_in z.numbered.now) (callees_of z b) (tables_for z b.instances.now) (signs_of z v.judge.signs.now) (Flat 0 steps)
+            (whole ∷ [])
 
         arm_is : arm_right s.types.now (type_in s.numbered.now) (callees_of s a) (tables_for s a.instances.now) g arm (w.whole.now ∷ []) ≡ true
         arm_is =

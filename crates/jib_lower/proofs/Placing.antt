@@ -1,7 +1,7 @@
 -- Functions of instances stand in the module: with the slots of their code, and with calls of functions that are there.
 use Rattle.std.proofs.Common.{◌≡◌, ◌∙◌, ℕ, zero, suc, ◌<◌, ◌≤◌, ℤ, Bool, true, false, List, [], ◌∷◌, length, map, Option, Some, None, refl, sym, ap, subst}
 use Rattle.std.proofs.Common.{◌+◌, ◌++◌, arith}
-use Rattle.std.specs.Prelude.{◌*◌, cond, if◌then◌else◌, nat_le, nat_lt, slice_get}
+use Rattle.std.specs.Prelude.{◌*◌, ◌&&◌, cond, if◌then◌else◌, nat_le, nat_lt, slice_get}
 use Rattle.std.proofs.lemmas.Bool.Decides.{nat_tests}
 use Rattle.sail_core.specs.declared.model.CoreModel.{CoreModel}
 use Rattle.size_values.specs.declared.sized.Sized.{Sized, Sized-F, out-Sized}
@@ -23,26 +23,28 @@ use Rattle.lowered_pieces.specs.declared.coding.Coding.{Coding}
 use Rattle.lowered_pieces.specs.Nodes.{told_as}
 use Rattle.lowered_pieces.specs.Places.{Naming}
 use Rattle.lowered_pieces.specs.Lowering.{kit_of}
+use Rattle.lowered_steps.specs.declared.setting.Mapped.{Mapped as Direction}
 use Rattle.lowered_steps.specs.declared.setting.Reads.{Reads}
 use Rattle.lowered_steps.specs.declared.setting.Setting.{Setting}
-use Rattle.lowered_steps.specs.Setting.{kit_for, number_for, size_for, tables_for}
+use Rattle.lowered_steps.specs.Setting.{direction_in, kit_for, number_for, size_for, tables_for, ways_for}
 use Rattle.lowered_ends.specs.declared.around.Around.{Around}
-use Rattle.lowered_ends.specs.declared.around.Mapped.{Mapped as Direction}
-use Rattle.lowered_ends.specs.Around.{answer_in, callees_of, direction_in, result_in}
+use Rattle.lowered_ends.specs.Around.{answer_in, called_number, callees_of, result_in}
 use Rattle.lowered_typed.specs.declared.signs.Called.{Called}
 use Rattle.lowered_typed.specs.Judging.{parameters_in, signs_of, turned_in}
 use Rattle.lowered_validity.specs.Laws.{Numbered, sizes_small}
 use Rattle.lowered_validity.specs.Right.{Entered, Placed, Signs}
 use Rattle.jib_lower.specs.declared.instances.Model.{Model}
-use Rattle.jib_lower.specs.Directions.{WayAround, WayMade}
-use Rattle.jib_lower.specs.Entering.{mapped_by}
+use Rattle.jib_lower.specs.Crossings.{is_in}
+use Rattle.jib_lower.specs.Directions.{WayAround, WayAt, WayMade}
+use Rattle.jib_lower.specs.Entering.{mapped_by, place_in}
 use Rattle.jib_lower.specs.Functions.{FunctionMade}
 use Rattle.jib_lower.specs.Instances.{Enters, MadeAt, SettingOf}
 use Rattle.jib_lower.specs.Lowered.{FlatFrom, ModelOf}
+use Rattle.jib_lower.specs.Order.{made_in}
 use Rattle.jib_lower.specs.Types.{all_small, exception_typ}
 use Rattle.jib_lower.proofs.Basics.{and_left, and_right, basic_of, got_before, integer_typ, is_there, kit_same, nothing_typ, slot_there, some_same}
 use Rattle.jib_lower.proofs.Basics.{get_past, there_below, truth_typ}
-use Rattle.jib_lower.proofs.Ways.{WayFound, way_found}
+use Rattle.jib_lower.proofs.Found.{WayFound, made_there, mapped_at, or_left, or_right, way_found}
 
 none_is : {A X : Type 0} (x : A) → None ≡ Some x → X
 none_is x e = cc
@@ -88,7 +90,7 @@ module _ (core : CoreModel) (sized : SizedCore) (m : Module) (low : FlatFrom cor
   -- ---- what is around code
 
   module _ (model : Model) (mo : ModelOf core sized low.table m model) (bodies : List (List NodeSizes)) (numbers : List (Option ℤ)) (setting : Setting)
-      {told : List Reads} (s : SettingOf model bodies numbers told setting) where
+      {told : List Reads} {asked : List Direction} (s : SettingOf model bodies numbers told asked setting) where
     types_are : setting.types.now ≡ core.types
     types_are = s.types ∙ ap (λ c. c.types) mo.of_core
 
@@ -108,7 +110,7 @@ module _ (core : CoreModel) (sized : SizedCore) (m : Module) (low : FlatFrom cor
         s.exception ∙ ap (λ xs. type_in xs model.exception.now) mo.numbered ∙ ap (type_in ss) mo.raised ∙ sym low.exception
 
     pub kit_here : (name : Naming) (e : ℕ) → m.exception ≡ e
-        → kit_for setting name ≡ kit_of setting.types.now name (number_for setting) e (size_for setting)
+        → kit_for setting name ≡ kit_of setting.types.now name (number_for setting) e (size_for setting) (ways_for setting)
     kit_here name e is =
         kit_same setting name e (s.nothing ∙ mo.nothing) (s.truths ∙ mo.truths)
         (s.unit ∙ ap (λ xs. type_in xs model.nothing.now) (sym s.numbered) ∙ ap (type_in setting.numbered.now) mo.nothing)
@@ -130,27 +132,26 @@ module _ (core : CoreModel) (sized : SizedCore) (m : Module) (low : FlatFrom cor
   abbrev pub LetsThere : Type 0
   LetsThere = (k t : ℕ) → slice_get low.model.lets.now k ≡ Some t → opening_typ m (slice_get m.openings k) ≡ Some t
 
-  function_there : (k : ℕ) (f : Made) → slice_get low.functions k ≡ Some f → slice_get m.functions k ≡ Some f
-  function_there k f e = ap (λ fs. slice_get fs k) low.all ∙ got_before low.functions (low.ways ++ low.opened) k f e
+  -- functions of directions stand first
+  pub way_there : (k : ℕ) (f : Made) → slice_get low.ways k ≡ Some f → slice_get m.functions k ≡ Some f
+  way_there k f e = ap (λ fs. slice_get fs k) low.all ∙ got_before low.ways (low.functions ++ low.opened) k f e
 
-  -- the k-th function of directions stands behind those of instances
-  pub way_there : (k : ℕ) (f : Made) → slice_get low.ways k ≡ Some f → slice_get m.functions (2 * length sized.instances + k) ≡ Some f
-  way_there k f e =
-      let many : length low.functions ≡ 2 * length sized.instances =
-      low.instances.many ∙ ap (λ (z : SizedCore). 2 * length z.instances) low.is.of_sized in
-      ap (λ n. slice_get m.functions (n + k)) (sym many) ∙ ap (λ fs. slice_get fs (length low.functions + k)) low.all
-      ∙ get_past low.functions (low.ways ++ low.opened) k ∙ got_before low.ways low.opened k f e
+  -- the k-th function of instances stands behind these
+  pub function_there : (k : ℕ) (f : Made) → slice_get low.functions k ≡ Some f → slice_get m.functions (length low.ways + k) ≡ Some f
+  function_there k f e =
+      ap (λ fs. slice_get fs (length low.ways + k)) low.all ∙ get_past low.ways (low.functions ++ low.opened) k
+      ∙ got_before low.functions low.opened k f e
 
   -- and behind these the k-th of openings
   pub opened_there : (k : ℕ) (f : Made) → slice_get low.opened k ≡ Some f
-      → slice_get m.functions (2 * length sized.instances + length low.ways + k) ≡ Some f
+      → slice_get m.functions (length low.ways + 2 * length sized.instances + k) ≡ Some f
   opened_there k f e =
       let many : length low.functions ≡ 2 * length sized.instances =
       low.instances.many ∙ ap (λ (z : SizedCore). 2 * length z.instances) low.is.of_sized in
-      ap (slice_get m.functions) (grouped (2 * length sized.instances) (length low.ways) k)
-      ∙ ap (λ n. slice_get m.functions (n + (length low.ways + k))) (sym many)
-      ∙ ap (λ fs. slice_get fs (length low.functions + (length low.ways + k))) low.all
-      ∙ get_past low.functions (low.ways ++ low.opened) (length low.ways + k) ∙ get_past low.ways low.opened k ∙ e
+      ap (slice_get m.functions) (grouped (length low.ways) (2 * length sized.instances) k)
+      ∙ ap (λ n. slice_get m.functions (length low.ways + (n + k))) (sym many)
+      ∙ ap (λ fs. slice_get fs (length low.ways + (length low.functions + k))) low.all
+      ∙ get_past low.ways (low.functions ++ low.opened) (length low.functions + k) ∙ get_past low.functions low.opened k ∙ e
     where
       grouped : (a b c : ℕ) → a + b + c ≡ a + (b + c)
       grouped a b c = omega arith
@@ -161,12 +162,18 @@ module _ (core : CoreModel) (sized : SizedCore) (m : Module) (low : FlatFrom cor
   ticked : (f : Made) (coding : Coding) → f.code ≡ coding.code → is_tick (slice_get coding.code 0) ≡ true → is_tick (slice_get f.code 0) ≡ true
   ticked f coding e h = ap (λ c. is_tick (slice_get c 0)) e ∙ h
 
-  -- a call of the instance at a place, by a function of this cycle that may read all openings
-  module _ (f : Made) (lets : f.lets ≡ length low.model.lets.now) where
-    enters : (p : ℕ) (c : Called) (x : SizedInstance) → slice_get sized.instances p ≡ Some x → slice_get low.model.called.now p ≡ Some c
-        → Enters ss low.called.cycles x c → c.cycle ≤ f.cycle → (number : Sized → ℕ) (answer : Sized) → number answer ≡ type_in ss (result_in x.signature)
-        → Entered m f (2 * p) (number answer) c.parameters
-    enters p c x there calls e below number answer is =
+  lt_is : (a b : ℕ) → a < b → nat_lt a b ≡ true
+  lt_is a b h = grind (arith, nat_tests)
+
+  lt_more : (a b c : ℕ) → nat_lt a b ≡ true → b ≤ c → nat_lt a c ≡ true
+  lt_more a b c h le = grind (arith, nat_tests)
+
+  -- what the n-th function enters by a call of the instance at a place, of this cycle, where it may read all openings
+  module _ (n : ℕ) (f : Made) (lets : f.lets ≡ length low.model.lets.now) where
+    enters : (before p : ℕ) → before ≡ length low.ways → (c : Called) (x : SizedInstance) → slice_get sized.instances p ≡ Some x
+        → slice_get low.model.called.now p ≡ Some c → Enters ss low.called.cycles x c → c.cycle ≤ f.cycle → (number : Sized → ℕ) (answer : Sized)
+        → number answer ≡ type_in ss (result_in x.signature) → Entered m f n (called_number before p) (number answer) c.parameters
+    enters before p first c x there calls e below number answer is =
         let at : MadeAt low.model low.functions p x = low.instances.each p x (ap (λ z. slice_get z.instances p) low.is.of_sized ∙ there) in
         let g : FunctionMade at.walk.setting.now at.head at.made.called_coding at.called = at.made.called_is in
         let one : at.signature ≡ e.signature = same_some at.signature e.signature x.signature at.plain.signed e.plain.signed in
@@ -175,88 +182,113 @@ module _ (core : CoreModel) (sized : SizedCore) (m : Module) (low : FlatFrom cor
         (numbered_are low.model low.is x.bodies x.instance.numbers at.walk.setting.now at.setting) in
         record {
           called = at.called;
-          there = function_there (2 * p) at.called at.called_there;
+          there = ap (λ b. slice_get m.functions (called_number b p)) first ∙ function_there (2 * p) at.called at.called_there;
           takes = g.parameters ∙ ap (λ n. map n at.head.given.now) numbers ∙ ap (map (type_in ss)) at.headed.given
               ∙ ap (λ (q : Signature). map (type_in ss) (map told_as q.parameters)) one ∙ sym e.parameters;
           gives = g.result ∙ at.headed.result ∙ ap (λ xs. type_in xs (told_as at.signature.result)) low.is.numbered
               ∙ ap (λ (o : Option Signature). type_in ss (result_in o)) (sym at.plain.signed) ∙ sym is;
           cycle = subst (λ n. n ≤ f.cycle) (sym (g.cycle ∙ at.headed.cycle_is ∙ ap (λ (d : Called). d.cycle) two)) below;
           lets = subst (λ n. n ≤ f.lets) (sym (g.lets ∙ at.headed.lets ∙ sym lets)) (self f.lets);
-          ticks = ticked at.called at.made.called_coding g.code (ap (λ code. is_tick (slice_get code 0)) at.made.called_made.put);
+          ticks = or_left (is_tick (slice_get at.called.code 0)) (nat_lt (called_number before p) n)
+              (ticked at.called at.made.called_coding g.code (ap (λ code. is_tick (slice_get code 0)) at.made.called_made.put));
         }
       where
         self : (n : ℕ) → n ≤ n
         self n = omega (arith)
 
     -- so for what is decided to be entered
-    pub entered : (cycle p : ℕ) (ts : List ℕ) (o : Option Called) → slice_get low.model.called.now p ≡ o → f.cycle ≡ cycle
-        → (number : Sized → ℕ) → number ≡ type_in ss → (instances : List SizedInstance) → instances ≡ sized.instances
-        → parameters_in cycle o ≡ Some ts → Entered m f (2 * p) (number (answer_in (slice_get instances p))) ts
-    entered cycle p ts None e same number is instances are d = none_is ts d
-    entered cycle p ts (Some c) e same number is instances are d = by (nat_le c.cycle cycle) refl d
+    pub entered : (before cycle p : ℕ) → before ≡ length low.ways → (ts : List ℕ) (o : Option Called) → slice_get low.model.called.now p ≡ o
+        → f.cycle ≡ cycle → (number : Sized → ℕ) → number ≡ type_in ss → (instances : List SizedInstance) → instances ≡ sized.instances
+        → parameters_in cycle o ≡ Some ts → Entered m f n (called_number before p) (number (answer_in (slice_get instances p))) ts
+    entered before cycle p first ts None e same number is instances are d = none_is ts d
+    entered before cycle p first ts (Some c) e same number is instances are d = by (nat_le c.cycle cycle) refl d
       where
         by : (b : Bool) → nat_le c.cycle cycle ≡ b → (if b then Some c.parameters else None) ≡ Some ts
-            → Entered m f (2 * p) (number (answer_in (slice_get instances p))) ts
+            → Entered m f n (called_number before p) (number (answer_in (slice_get instances p))) ts
         by false h d = none_is ts d
         by true h d =
             let r = is_there sized.instances p (subst (λ n. p < n) low.called.many (there_below low.model.called.now p c e)) in
             let q = low.called.each p r.0 r.1 in
             let one : q.0 ≡ c = same_some q.0 c (slice_get low.model.called.now p) q.1 e in
-            subst (λ us. Entered m f (2 * p) (number (answer_in (slice_get instances p))) us) (some_same c.parameters ts d)
-            (enters p c r.0 r.1 e (subst (λ d. Enters ss low.called.cycles r.0 d) one q.2)
+            subst (λ us. Entered m f n (called_number before p) (number (answer_in (slice_get instances p))) us) (some_same c.parameters ts d)
+            (enters before p first c r.0 r.1 e (subst (λ d. Enters ss low.called.cycles r.0 d) one q.2)
             (subst (λ n. c.cycle ≤ n) (sym same) (le_true c.cycle cycle h)) number (answer_in (slice_get instances p))
             (ap (λ (n : Sized → ℕ). n (answer_in (slice_get instances p))) is
             ∙ ap (λ (xs : List SizedInstance). type_in ss (answer_in (slice_get xs p))) are ∙ ap (λ o. type_in ss (answer_in o)) r.1))
 
-    -- so for a direction of a mapping that may be called
-    pub directed : (cycle : ℕ) → f.cycle ≡ cycle → (number : Sized → ℕ) → number ≡ type_in ss → (xs : List Direction) → xs ≡ low.model.directions.now
-        → (ts : List (Option ℕ)) → ts ≡ low.model.turned.now → (d : ℕ) → turned_in cycle (slice_get ts d) ≡ true
-        → Entered m f (direction_in (slice_get xs d)).function (number (direction_in (slice_get xs d)).gives)
+    -- so for a direction of a mapping that may be asked, the function of which stands before this one
+    pub directed : (cycle below : ℕ) → f.cycle ≡ cycle → below ≤ n → (number : Sized → ℕ) → number ≡ type_in ss → (xs : List Direction)
+        → xs ≡ low.model.directions.now → (ts : List (Option ℕ)) → ts ≡ low.model.turned.now → (d : ℕ)
+        → (turned_in cycle (slice_get ts d) && nat_lt (direction_in (slice_get xs d)).function below) ≡ true
+        → Entered m f n (direction_in (slice_get xs d)).function (number (direction_in (slice_get xs d)).gives)
         (number (direction_in (slice_get xs d)).takes ∷ [])
-    directed cycle same number is xs xs_are ts ts_are d h =
-        by (slice_get low.model.turned.now d) refl (ap (λ us. turned_in cycle (slice_get us d)) (sym ts_are) ∙ h)
+    directed cycle below same room number is xs xs_are ts ts_are d h =
+        by (slice_get low.model.turned.now d) refl (ap (λ us. turned_in cycle (slice_get us d)) (sym ts_are)
+        ∙ and_left (turned_in cycle (slice_get ts d)) (nat_lt (direction_in (slice_get xs d)).function below) h)
       where
         self : (n : ℕ) → n ≤ n
         self n = omega (arith)
 
-        found : (c : ℕ) → c ≤ cycle → (w : WayFound low.model 0 (2 * length sized.instances) c core.directions low.model.turned.now low.ways d)
-            → Entered m f (direction_in (slice_get xs d)).function (number (direction_in (slice_get xs d)).gives)
+        before : nat_lt (direction_in (slice_get xs d)).function n ≡ true
+        before =
+            lt_more (direction_in (slice_get xs d)).function below n
+            (and_right (turned_in cycle (slice_get ts d)) (nat_lt (direction_in (slice_get xs d)).function below) h) room
+
+        found : (c : ℕ) → c ≤ cycle → slice_get low.model.turned.now d ≡ Some (Some c) → WayFound low.model 0 low.model.order.now low.ways d
+            → Entered m f n (direction_in (slice_get xs d)).function (number (direction_in (slice_get xs d)).gives)
             (number (direction_in (slice_get xs d)).takes ∷ [])
-        found c below w =
-            let way : WayMade low.model (0 + d) (2 * length sized.instances + w.k) c w.m w.made = w.way in
-            let x : Direction = mapped_by low.model.core.now.types (2 * length sized.instances + w.k) w.m in
+        found c lower e w =
+            let k : ℕ = place_in low.model.order.now d in
+            let q : WayAt low.model d k w.made = subst (λ i. WayAt low.model d i w.made) (first_is k) w.at in
+            let way : WayMade low.model d k q.cycle q.direction w.made = q.is in
+            let x : Direction = mapped_by low.model.core.now.types k q.direction in
+            let is_cycle : q.cycle ≡ c = one_cycle q.cycle c (sym q.turned ∙ e) in
             let at : slice_get xs d ≡ Some x =
-            ap (λ ys. slice_get ys d) (xs_are ∙ low.entered) ∙ w.entered core.types
-            ∙ ap (λ (z : CoreModel). Some (mapped_by z.types (2 * length sized.instances + w.k) w.m)) (sym low.is.of_core) in
+            ap (λ ys. slice_get ys d) (xs_are ∙ low.entered)
+            ∙ mapped_at core.types low.model.order.now 0 core.directions d q.direction
+            (ap (λ (z : CoreModel). slice_get z.directions d) (sym low.is.of_core) ∙ q.found)
+            ∙ ap (λ i. Some (mapped_by core.types (place_in low.model.order.now i) q.direction)) (first_is d)
+            ∙ ap (λ (z : CoreModel). Some (mapped_by z.types k q.direction)) (sym low.is.of_core) in
             let g : FunctionMade way.taken.walk.setting.now way.taken.head way.taken.code.coding w.made = way.taken.code.is in
-            let around : WayAround low.model (way.nodes ∷ []) w.m x c way.taken.walk way.taken.judge way.taken.head = way.taken.around in
+            let around : WayAround low.model (way.nodes ∷ []) q.direction x q.cycle way.taken.walk way.taken.judge way.taken.head = way.taken.around in
             let numbers : number_for way.taken.walk.setting.now ≡ number =
             ap type_in (numbered_are low.model low.is (way.nodes ∷ []) [] way.taken.walk.setting.now around.setting) ∙ sym is in
-            subst (λ (o : Option Direction). Entered m f (direction_in o).function (number (direction_in o).gives) (number (direction_in o).takes ∷ []))
-            (sym at)
-            (record {
+            subst
+            (λ (o : Option Direction). nat_lt (direction_in o).function n ≡ true
+            → Entered m f n (direction_in o).function (number (direction_in o).gives) (number (direction_in o).takes ∷ [])) (sym at)
+            (λ lt. record {
               called = w.made;
-              there = way_there w.k w.made w.there;
+              there = way_there k w.made w.there;
               takes = g.parameters ∙ ap (λ n. map n way.taken.head.given.now) numbers ∙ ap (map number) around.takes;
               gives = g.result ∙ around.gives ∙ ap (λ us. type_in us x.gives) low.is.numbered ∙ ap (λ (n : Sized → ℕ). n x.gives) (sym is);
-              cycle = subst (λ n. n ≤ f.cycle) (sym (g.cycle ∙ around.head_cycle)) (subst (λ n. c ≤ n) (sym same) below);
+              cycle = subst (λ n. n ≤ f.cycle) (sym (g.cycle ∙ around.head_cycle ∙ is_cycle)) (subst (λ n. c ≤ n) (sym same) lower);
               lets = subst (λ n. n ≤ f.lets) (sym (g.lets ∙ around.reads ∙ sym lets)) (self f.lets);
-              ticks = ticked w.made way.taken.code.coding g.code (ap (λ code. is_tick (slice_get code 0)) way.taken.code.code.put);
-            })
+              ticks = or_right (is_tick (slice_get w.made.code 0)) (nat_lt k n) lt;
+            }) before
+          where
+            first_is : (i : ℕ) → 0 + i ≡ i
+            first_is i = omega arith
+
+            one_cycle : (a b : ℕ) → Some (Some a) ≡ Some (Some b) → a ≡ b
+            one_cycle a b e = cc
+
+        among : (c : ℕ) → slice_get low.model.turned.now d ≡ Some (Some c) → is_in d low.model.order.now ≡ true
+        among c e =
+            low.ordered.same d
+            ∙ subst (λ i. is_in i (made_in 0 low.model.turned.now) ≡ true) (begun d) (made_there 0 low.model.turned.now d c e)
+          where
+            begun : (i : ℕ) → 0 + i ≡ i
+            begun i = omega arith
 
         by : (o : Option (Option ℕ)) → slice_get low.model.turned.now d ≡ o → turned_in cycle (slice_get low.model.turned.now d) ≡ true
-            → Entered m f (direction_in (slice_get xs d)).function (number (direction_in (slice_get xs d)).gives)
+            → Entered m f n (direction_in (slice_get xs d)).function (number (direction_in (slice_get xs d)).gives)
             (number (direction_in (slice_get xs d)).takes ∷ [])
         by None e g = no (sym (ap (turned_in cycle) e) ∙ g)
         by (Some None) e g = no (sym (ap (turned_in cycle) e) ∙ g)
         by (Some (Some c)) e g =
-            found c (le_true c cycle (sym (ap (turned_in cycle) e) ∙ g))
-            (way_found low.model low.directions d c e)
+            found c (le_true c cycle (sym (ap (turned_in cycle) e) ∙ g)) e (way_found low.model low.directions d (among c e))
 
   -- ---- the functions of an instance
-
-  lt_is : (a b : ℕ) → a < b → nat_lt a b ≡ true
-  lt_is a b h = grind (arith, nat_tests)
 
   module _ (slots : SlotsTyped) (lets_there : LetsThere) (p : ℕ) (x : SizedInstance) (at : MadeAt low.model low.functions p x) where
     abbrev pub setting_at : Setting
@@ -266,7 +298,7 @@ module _ (core : CoreModel) (sized : SizedCore) (m : Module) (low : FlatFrom cor
     around_at = at.walk.around.now
 
     abbrev pub signs_at : Signs
-    signs_at = signs_of at.judge.signs.now
+    signs_at = signs_of setting_at at.judge.signs.now
 
     table_is : m.types ≡ signs_at.table
     table_is = sym (ap (λ (z : Module). z.types) at.signs.shell ∙ low.is.shell_types)
@@ -285,29 +317,36 @@ module _ (core : CoreModel) (sized : SizedCore) (m : Module) (low : FlatFrom cor
     known_at : (t : Sized) → is_known ss t ≡ true → is_known setting_at.numbered.now t ≡ true
     known_at t k = ap (λ xs. is_known xs t) numbers_are ∙ k
 
-    pub placed : (f : Made) (coding : Coding) → FunctionMade setting_at at.head coding f
-        → Placed setting_at.types.now setting_at.numbered.now (type_in setting_at.numbered.now) (callees_of setting_at around_at) m f (name_in coding.slots)
+    -- they stand behind those of directions
+    pub placed : (n : ℕ) → length low.ways ≤ n → (f : Made) (coding : Coding) → FunctionMade setting_at at.head coding f
+        → Placed setting_at.types.now setting_at.numbered.now (type_in setting_at.numbered.now) (callees_of setting_at around_at) m f n (name_in coding.slots)
         signs_at
-    placed f coding is = record {
+    placed n behind f coding is = record {
       named = λ q t lt. ap (λ ts. slice_get ts (name_in coding.slots q t)) is.slots
           ∙ slot_there slots coding.slots q t (subst (λ ts. name_in coding.slots q t < length ts) is.slots lt);
       table = table_is;
       stands = stands_at;
-      basic = basic_of setting_at.types.now setting_at.numbered.now signs_at.table stands_at (name_in coding.slots) signs_at.exception (size_for setting_at)
+      basic = basic_of setting_at.types.now setting_at.numbered.now signs_at.table stands_at (name_in coding.slots) signs_at.exception
+          (size_for setting_at) (ways_for setting_at)
           (known_at S.Unit basics.0) (known_at S.Bool basics.1) (known_at S.Int basics.2);
       exception = raised_is;
       registers = sym (ap (λ (z : Module). z.registers) at.signs.shell ∙ low.is.shell_registers);
       lets = λ k t e. let_is f is k t (ap (λ ts. slice_get ts k) (sym at.signs.lets) ∙ e);
       result = is.result ∙ at.headed.result ∙ sym at.signs.result;
       is_pure = is.is_pure ∙ at.headed.is_pure ∙ sym at.signs.is_pure;
-      entered = λ q ts d. entered f (is.lets ∙ at.headed.lets) at.judge.signs.now.cycle q ts (slice_get low.model.called.now q) refl
+      entered = λ q ts d. entered n f (is.lets ∙ at.headed.lets) around_at.before at.judge.signs.now.cycle q before_is ts
+          (slice_get low.model.called.now q) refl
           (is.cycle ∙ at.headed.cycle_is ∙ sym at.signs.cycle_is) (number_for setting_at) (ap type_in numbers_are) around_at.instances.now
           (at.around.instances ∙ ap (λ (z : SizedCore). z.instances) low.is.of_sized)
           (ap (λ (cs : List Called). parameters_in at.judge.signs.now.cycle (slice_get cs q)) (sym at.signs.called) ∙ d);
-      directed = λ d h. directed f (is.lets ∙ at.headed.lets) at.judge.signs.now.cycle (is.cycle ∙ at.headed.cycle_is ∙ sym at.signs.cycle_is)
-          (number_for setting_at) (ap type_in numbers_are) around_at.directions.now at.around.directions at.judge.signs.now.turned.now at.signs.turned d h;
+      directed = λ d h. directed n f (is.lets ∙ at.headed.lets) at.judge.signs.now.cycle at.judge.signs.now.below
+          (is.cycle ∙ at.headed.cycle_is ∙ sym at.signs.cycle_is) (subst (λ b. b ≤ n) (sym (at.signs.below ∙ low.before)) behind) (number_for setting_at)
+          (ap type_in numbers_are) setting_at.directions.now at.setting.directions_are at.judge.signs.now.turned.now at.signs.turned d h;
     }
       where
+        before_is : around_at.before ≡ length low.ways
+        before_is = at.around.before ∙ low.before
+
         let_is : (f : Made) → FunctionMade setting_at at.head coding f → (k t : ℕ) → slice_get low.model.lets.now k ≡ Some t → let_typ m f k ≡ Some t
         let_is f is k t e =
             ap (λ b. cond b (opening_typ m (slice_get m.openings k)) None)

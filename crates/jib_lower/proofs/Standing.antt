@@ -26,7 +26,7 @@ use Rattle.lowered_pieces.specs.Lowering.{kit_of, piece}
 use Rattle.lowered_pieces.specs.Places.{Kit, Naming}
 use Rattle.lowered_pieces.specs.Tables.{Tables}
 use Rattle.lowered_steps.specs.declared.setting.Setting.{Setting}
-use Rattle.lowered_steps.specs.Setting.{kit_for, number_for, size_for, tables_for}
+use Rattle.lowered_steps.specs.Setting.{kit_for, number_for, size_for, tables_for, ways_for}
 use Rattle.lowered_ends.specs.declared.around.Around.{Around}
 use Rattle.lowered_ends.specs.Around.{callees_of}
 use Rattle.lowered_functions.specs.Made.{first_slots, given_slots}
@@ -175,7 +175,7 @@ module _ (core : CoreModel) (sized : SizedCore) (m : Module) (low : FlatFrom cor
     around = at.walk.around.now
 
     abbrev signs : Signs
-    signs = signs_of at.judge.signs.now
+    signs = signs_of setting at.judge.signs.now
 
     abbrev tables : Tables
     tables = tables_for setting around.instances.now
@@ -196,7 +196,8 @@ module _ (core : CoreModel) (sized : SizedCore) (m : Module) (low : FlatFrom cor
       where
         decided : Setting → Around → Bool
         decided s a =
-            is_typed s.types.now s.numbered.now (callees_of s a) (tables_for s a.instances.now) signs name measure at.function.last at.function.body
+            is_typed s.types.now s.numbered.now (callees_of s a) (tables_for s a.instances.now) (signs_of s at.judge.signs.now) name measure
+            at.function.last at.function.body
 
     abbrev body_at : Kit → Piece
     body_at kit = result_of setting.types.now kit (number_for setting) callees tables at.function.last at.function.body
@@ -208,25 +209,39 @@ module _ (core : CoreModel) (sized : SizedCore) (m : Module) (low : FlatFrom cor
     abbrev event_at : Kit → List Instruction
     event_at kit = event_code kit at.function.place (body_at kit)
 
-    kit_is : (name : Naming) → kit_for setting name ≡ kit_of setting.types.now name (number_for setting) signs.exception (size_for setting)
+    kit_is : (name : Naming)
+        → kit_for setting name ≡ kit_of setting.types.now name (number_for setting) signs.exception (size_for setting) (ways_for setting)
     kit_is name =
         kit_here core sized m low low.model low.is x.bodies x.instance.numbers setting at.setting name signs.exception
         (raised_is core sized m low laws.slots lets p x at)
 
-    pub called_is_right : function_right m (2 * p) at.called ≡ true
+    -- where they stand in the module
+    abbrev pub called_place : ℕ
+    called_place = length low.ways + 2 * p
+
+    abbrev pub event_place : ℕ
+    event_place = length low.ways + (2 * p + 1)
+
+    behind : (k : ℕ) → length low.ways ≤ length low.ways + k
+    behind k = more (length low.ways)
+      where
+        more : (n : ℕ) → n ≤ n + k
+        more n = omega (arith)
+
+    pub called_is_right : function_right m called_place at.called ≡ true
     called_is_right =
-        function_is_right m laws.codes (2 * p) at.called setting at.head at.made.called_coding at.made.called_is at.made.called_made.first
+        function_is_right m laws.codes called_place at.called setting at.head at.made.called_coding at.made.called_is at.made.called_made.first
         at.made.called_made.room (many_types setting.numbered.now numbers_are)
         (exception_here core sized m low low.model low.is x.bodies x.instance.numbers setting at.setting) ended once
       where
         code_is : at.called.code ≡ called_at (kit_for setting (name_in at.made.called_coding.slots))
         code_is = at.made.called_is.code ∙ at.made.called_made.put
 
-        ended : Ended m at.called (2 * p) at.called.code
+        ended : Ended m at.called called_place at.called.code
         ended =
-            subst (Ended m at.called (2 * p)) (sym (code_is ∙ ap called_at (kit_is (name_in at.made.called_coding.slots))))
-            (laws.called setting.types.now setting.numbered.now callees tables signs m at.called (2 * p) (name_in at.made.called_coding.slots)
-            (placed core sized m low laws.slots lets p x at at.called at.made.called_coding at.made.called_is)
+            subst (Ended m at.called called_place) (sym (code_is ∙ ap called_at (kit_is (name_in at.made.called_coding.slots))))
+            (laws.called setting.types.now setting.numbered.now callees tables signs m at.called called_place (name_in at.made.called_coding.slots)
+            (placed core sized m low laws.slots lets p x at called_place (behind (2 * p)) at.called at.made.called_coding at.made.called_is)
             (numbered_here core sized m low low.model low.is x.bodies x.instance.numbers setting at.setting around.instances.now)
             (at.made.called_is.is_pure ∙ at.headed.is_pure) at.function.place measure at.function.last at.function.body
             (typed_here (name_in at.made.called_coding.slots)))
@@ -237,20 +252,20 @@ module _ (core : CoreModel) (sized : SizedCore) (m : Module) (low : FlatFrom cor
             (laws.own setting.types.now (kit_for setting (name_in at.made.called_coding.slots)) (number_for setting) callees tables at.function.place measure
             at.function.last at.function.body k).0
 
-    pub event_is_right : function_right m (2 * p + 1) at.event ≡ true
+    pub event_is_right : function_right m event_place at.event ≡ true
     event_is_right =
-        function_is_right m laws.codes (2 * p + 1) at.event setting at.head at.made.event_coding at.made.event_is at.made.event_made.first
+        function_is_right m laws.codes event_place at.event setting at.head at.made.event_coding at.made.event_is at.made.event_made.first
         at.made.event_made.room (many_types setting.numbered.now numbers_are)
         (exception_here core sized m low low.model low.is x.bodies x.instance.numbers setting at.setting) ended once
       where
         code_is : at.event.code ≡ event_at (kit_for setting (name_in at.made.event_coding.slots))
         code_is = at.made.event_is.code ∙ at.made.event_made.put
 
-        ended : Ended m at.event (2 * p + 1) at.event.code
+        ended : Ended m at.event event_place at.event.code
         ended =
-            subst (Ended m at.event (2 * p + 1)) (sym (code_is ∙ ap event_at (kit_is (name_in at.made.event_coding.slots))))
-            (laws.events setting.types.now setting.numbered.now callees tables signs m at.event (2 * p + 1) (name_in at.made.event_coding.slots)
-            (placed core sized m low laws.slots lets p x at at.event at.made.event_coding at.made.event_is)
+            subst (Ended m at.event event_place) (sym (code_is ∙ ap event_at (kit_is (name_in at.made.event_coding.slots))))
+            (laws.events setting.types.now setting.numbered.now callees tables signs m at.event event_place (name_in at.made.event_coding.slots)
+            (placed core sized m low laws.slots lets p x at event_place (behind (2 * p + 1)) at.event at.made.event_coding at.made.event_is)
             (numbered_here core sized m low low.model low.is x.bodies x.instance.numbers setting at.setting around.instances.now) at.function.place measure
             at.function.last at.function.body (typed_here (name_in at.made.event_coding.slots)))
 

@@ -1,5 +1,5 @@
 -- Functions of directions of mappings are valid.
-use Rattle.std.proofs.Common.{◌≡◌, ◌∙◌, ℕ, ◌<◌, ◌≤◌, ◌+◌, Bool, true, false, List, [], ◌∷◌, length, map, Option, Some, None, refl, sym, ap}
+use Rattle.std.proofs.Common.{◌≡◌, ◌∙◌, ℕ, ◌<◌, ◌≤◌, Bool, true, List, [], ◌∷◌, length, map, Some, None, refl, sym, ap}
 use Rattle.std.proofs.Common.{subst, arith, eq-eqb}
 use Rattle.std.specs.Prelude.{◌&&◌, cond, nat_eq, nat_lt, slice_get}
 use Rattle.std.proofs.lemmas.Bool.Decides.{nat_tests}
@@ -25,25 +25,23 @@ use Rattle.lowered_slots.specs.Laws.{SlotsTyped}
 use Rattle.lowered_slots.specs.Slots.{name_in}
 use Rattle.lowered_laws.specs.CodeLaws.{sets}
 use Rattle.lowered_laws.specs.FormLaws.{OpeningsOwnLabels}
-use Rattle.lowered_pieces.specs.Emitted.{Begins}
-use Rattle.lowered_pieces.specs.Forms.{Callees, Piece}
-use Rattle.lowered_pieces.specs.Functions.{direction_code, event_code}
+use Rattle.lowered_pieces.specs.Forms.{Callees}
+use Rattle.lowered_pieces.specs.Functions.{direction_code}
 use Rattle.lowered_pieces.specs.Lowering.{Node, kind_lowered, kind_piece, kit_of, node, piece, pieces_of}
 use Rattle.lowered_pieces.specs.Mapped.{optional_piece}
 use Rattle.lowered_pieces.specs.Places.{Kit, Naming}
 use Rattle.lowered_pieces.specs.Tables.{Tables}
+use Rattle.lowered_steps.specs.declared.setting.Mapped.{Mapped}
 use Rattle.lowered_steps.specs.declared.setting.Setting.{Setting}
-use Rattle.lowered_steps.specs.Setting.{kit_for, number_for, size_for, tables_for}
+use Rattle.lowered_steps.specs.Setting.{kit_for, number_for, size_for, tables_for, ways_for}
 use Rattle.lowered_ends.specs.declared.around.Around.{Around}
-use Rattle.lowered_ends.specs.declared.around.Mapped.{Mapped}
 use Rattle.lowered_ends.specs.Around.{callees_of}
-use Rattle.lowered_functions.specs.Made.{first_slots, mapping_for}
 use Rattle.lowered_typed.specs.declared.signs.Called.{Called}
 use Rattle.lowered_typed.specs.Judging.{parameters_in, signs_of}
 use Rattle.lowered_validity.specs.Laws.{CodesAreRight, DirectionsAreRight, Ended, Numbered, is_value}
 use Rattle.lowered_validity.specs.Right.{Placed, Signs}
 use Rattle.lowered_validity.specs.Typing.{Typing, are_of, kind_ends, kind_right, kind_types, typing}
-use Rattle.jib_lower.specs.Directions.{BodyOf, WayMade}
+use Rattle.jib_lower.specs.Directions.{BodyOf, WayAt, WayMade}
 use Rattle.jib_lower.specs.Entering.{mapped_by, option_in}
 use Rattle.jib_lower.specs.Lowered.{FlatFrom}
 use Rattle.jib_lower.proofs.Basics.{basic_of, both, slot_there, there_below}
@@ -97,8 +95,7 @@ module _ (core : CoreModel) (sized : SizedCore) (m : Module) (low : FlatFrom cor
   many_types : (xs : List Sized) → xs ≡ low.table.numbered → length xs ≡ length m.types
   many_types xs e = ap length e ∙ sym low.stands.same ∙ sym (ap length low.types)
 
-  module _ (d number cycle : ℕ) (way : Direction) (f : Made) (there : slice_get core.directions d ≡ Some way)
-      (w : WayMade low.model d number cycle way f) where
+  module _ (d number cycle : ℕ) (way : Direction) (f : Made) (w : WayMade low.model d number cycle way f) where
     abbrev x : Mapped
     x = mapped_by low.model.core.now.types number way
 
@@ -112,7 +109,7 @@ module _ (core : CoreModel) (sized : SizedCore) (m : Module) (low : FlatFrom cor
     around = w.taken.walk.around.now
 
     abbrev signs : Signs
-    signs = signs_of w.taken.judge.signs.now
+    signs = signs_of setting w.taken.judge.signs.now
 
     abbrev callees : Callees
     callees = callees_of setting around
@@ -146,7 +143,7 @@ module _ (core : CoreModel) (sized : SizedCore) (m : Module) (low : FlatFrom cor
     numbered : Numbered setting.types.now tables setting.numbered.now
     numbered = numbered_here core sized m low low.model low.is bodies [] setting w.taken.around.setting around.instances.now
 
-    kit_is : kit_for setting name ≡ kit_of setting.types.now name (number_for setting) signs.exception (size_for setting)
+    kit_is : kit_for setting name ≡ kit_of setting.types.now name (number_for setting) signs.exception (size_for setting) (ways_for setting)
     kit_is = kit_here core sized m low low.model low.is bodies [] setting w.taken.around.setting name signs.exception raised_is
 
     reads : f.lets ≡ length low.model.lets.now
@@ -155,27 +152,33 @@ module _ (core : CoreModel) (sized : SizedCore) (m : Module) (low : FlatFrom cor
     own_cycle : f.cycle ≡ w.taken.judge.signs.now.cycle
     own_cycle = w.taken.code.is.cycle ∙ w.taken.around.head_cycle ∙ sym w.taken.around.cycle_is
 
-    placed : Placed setting.types.now setting.numbered.now (type_in setting.numbered.now) callees m f name signs
+    -- it asks those that stand before it
+    placed : Placed setting.types.now setting.numbered.now (type_in setting.numbered.now) callees m f number name signs
     placed = record {
       named = λ q t lt. ap (λ ts. slice_get ts (name q t)) w.taken.code.is.slots
           ∙ slot_there laws.slots w.taken.code.coding.slots q t (subst (λ ts. name q t < length ts) w.taken.code.is.slots lt);
       table = table_is;
       stands = stands_at;
       basic = basic_of setting.types.now setting.numbered.now signs.table stands_at name signs.exception (size_for setting)
-          (known_at S.Unit (basics core sized m low).0) (known_at S.Bool (basics core sized m low).1) (known_at S.Int (basics core sized m low).2);
+          (ways_for setting) (known_at S.Unit (basics core sized m low).0) (known_at S.Bool (basics core sized m low).1)
+          (known_at S.Int (basics core sized m low).2);
       exception = raised_is;
       registers = sym (ap (λ (z : Module). z.registers) w.taken.around.shell ∙ low.is.shell_registers);
       lets = λ k t e. let_is k t (ap (λ ts. slice_get ts k) (sym w.taken.around.lets) ∙ e);
       result = w.taken.code.is.result ∙ w.taken.around.gives ∙ sym w.taken.around.result;
       is_pure = w.taken.code.is.is_pure ∙ w.taken.around.impure ∙ sym w.taken.around.is_pure;
-      entered = λ q ts e. entered core sized m low f reads w.taken.judge.signs.now.cycle q ts (slice_get low.model.called.now q) refl own_cycle
-          (number_for setting) (ap type_in numbers_are) around.instances.now
+      entered = λ q ts e. entered core sized m low number f reads around.before w.taken.judge.signs.now.cycle q (w.taken.around.before ∙ low.before) ts
+          (slice_get low.model.called.now q) refl own_cycle (number_for setting) (ap type_in numbers_are) around.instances.now
           (w.taken.around.instances ∙ ap (λ (z : SizedCore). z.instances) low.is.of_sized)
           (ap (λ (cs : List Called). parameters_in w.taken.judge.signs.now.cycle (slice_get cs q)) (sym w.taken.around.called) ∙ e);
-      directed = λ k h. directed core sized m low f reads w.taken.judge.signs.now.cycle own_cycle (number_for setting) (ap type_in numbers_are)
-          around.directions.now w.taken.around.directions w.taken.judge.signs.now.turned.now w.taken.around.turned k h;
+      directed = λ k h. directed core sized m low number f reads w.taken.judge.signs.now.cycle w.taken.judge.signs.now.below own_cycle
+          (same_place w.taken.judge.signs.now.below number w.taken.around.below) (number_for setting) (ap type_in numbers_are) setting.directions.now
+          w.taken.around.setting.directions_are w.taken.judge.signs.now.turned.now w.taken.around.turned k h;
     }
       where
+        same_place : (a b : ℕ) → a ≡ b → a ≤ b
+        same_place a b e = omega (arith, e)
+
         let_is : (k t : ℕ) → slice_get low.model.lets.now k ≡ Some t → let_typ m f k ≡ Some t
         let_is k t e =
             ap (λ b. cond b (opening_typ m (slice_get m.openings k)) None)
@@ -184,7 +187,8 @@ module _ (core : CoreModel) (sized : SizedCore) (m : Module) (low : FlatFrom cor
 
     -- the option that its clauses give is of the type of its result
     abbrev decides : Setting → Around → Bool
-    decides s a = is_value s.types.now s.numbered.now (callees_of s a) (tables_for s a.instances.now) signs name way.body
+    decides s a =
+        is_value s.types.now s.numbered.now (callees_of s a) (tables_for s a.instances.now) (signs_of s w.taken.judge.signs.now) name way.body
 
     gives_is : x.gives ≡ fixed_typ core.types (option_typ w.taken.typ)
     gives_is =
@@ -204,6 +208,9 @@ module _ (core : CoreModel) (sized : SizedCore) (m : Module) (low : FlatFrom cor
         numbering : Sized → ℕ
         numbering = type_in s.numbered.now
 
+        g : Signs
+        g = signs_of s w.taken.judge.signs.now
+
         option : Sized
         option = fixed_typ s.types.now (option_typ w.taken.typ)
 
@@ -216,41 +223,34 @@ module _ (core : CoreModel) (sized : SizedCore) (m : Module) (low : FlatFrom cor
 
         at_judge : decides s a ≡ true
         at_judge =
-            both (typing s.types.now numbering (callees_of s a) (tables_for s a.instances.now) signs way.body).right
-            (are_of s.types.now numbering (callees_of s a) (tables_for s a.instances.now) signs signs.result
-            (typing s.types.now numbering (callees_of s a) (tables_for s a.instances.now) signs way.body).types) w.taken.code.right
-            (ap (are_of s.types.now numbering (callees_of s a) (tables_for s a.instances.now) signs signs.result)
-            (option_types s.types.now numbering (callees_of s a) (tables_for s a.instances.now) signs way w.taken.typ w.taken.clauses w.taken.body)
+            both (typing s.types.now numbering (callees_of s a) (tables_for s a.instances.now) g way.body).right
+            (are_of s.types.now numbering (callees_of s a) (tables_for s a.instances.now) g signs.result
+            (typing s.types.now numbering (callees_of s a) (tables_for s a.instances.now) g way.body).types) w.taken.code.right
+            (ap (are_of s.types.now numbering (callees_of s a) (tables_for s a.instances.now) g signs.result)
+            (option_types s.types.now numbering (callees_of s a) (tables_for s a.instances.now) g way w.taken.typ w.taken.clauses w.taken.body)
             ∙ both (nat_eq (numbering option) signs.result) (nat_eq (numbering option) signs.result && true) same_number
             (both (nat_eq (numbering option) signs.result) true same_number refl))
 
     abbrev code : Kit → List Instruction
-    code kit = direction_code kit true way.place (piece setting.types.now kit (number_for setting) callees tables way.body)
+    code kit = direction_code kit way.place (piece setting.types.now kit (number_for setting) callees tables way.body)
 
     code_is : f.code ≡ code (kit_for setting name)
     code_is =
         w.taken.code.is.code ∙ w.taken.code.code.put
-        ∙ ap (direction_code (kit_for setting name) true way.place)
+        ∙ ap (direction_code (kit_for setting name) way.place)
         (sym (option_piece setting.types.now (kit_for setting name) (number_for setting) callees tables way w.taken.typ w.taken.clauses w.taken.body))
 
     once : (kit : Kit) (k : ℕ) → sets k (code kit) ≤ 1
-    once kit k =
-        subst (λ n. n ≤ 1) (begun (sets k (event_code kit way.place (piece setting.types.now kit (number_for setting) callees tables way.body))))
-        ((laws.own setting.types.now kit way.place k).0 (number_for setting) callees tables way.body)
-      where
-        begun : (n : ℕ) → n ≡ 0 + n
-        begun n = omega arith
+    once kit k = (laws.own setting.types.now kit way.place k).0 (number_for setting) callees tables way.body
 
-    pub way_is_valid : (n : ℕ) → function_right m n f ≡ true
-    way_is_valid n =
-        function_is_right m laws.codes n f setting w.taken.head w.taken.code.coding w.taken.code.is w.taken.code.code.first w.taken.code.code.room
+    pub way_is_valid : function_right m number f ≡ true
+    way_is_valid =
+        function_is_right m laws.codes number f setting w.taken.head w.taken.code.coding w.taken.code.is w.taken.code.code.first w.taken.code.code.room
         (many_types setting.numbered.now numbers_are)
         (exception_here core sized m low low.model low.is bodies [] setting w.taken.around.setting)
-        (subst (Ended m f n) (sym (code_is ∙ ap code kit_is))
-        (laws.directions setting.types.now setting.numbered.now callees tables signs m f n name placed numbered true
-        (λ e. w.taken.code.is.is_pure ∙ w.taken.around.impure) way.place way.body decided))
+        (subst (Ended m f number) (sym (code_is ∙ ap code kit_is))
+        (laws.directions setting.types.now setting.numbered.now callees tables signs m f number name placed numbered way.place way.body decided))
         (λ k. subst (λ c. sets k c ≤ 1) (sym code_is) (once (kit_for setting name) k))
 
-  pub way_is_right : (n d number cycle : ℕ) (way : Direction) (f : Made) → slice_get core.directions d ≡ Some way
-      → WayMade low.model d number cycle way f → function_right m n f ≡ true
-  way_is_right n d number cycle way f there w = way_is_valid d number cycle way f there w n
+  pub way_is_right : (d number : ℕ) (f : Made) → WayAt low.model d number f → function_right m number f ≡ true
+  way_is_right d number f at = way_is_valid d number at.cycle at.direction f at.is

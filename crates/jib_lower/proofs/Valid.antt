@@ -25,7 +25,6 @@ use Rattle.jib.specs.Valid.{all_typs, function_right, is_typ, opened_by, opening
 use Rattle.lowered_pieces.specs.Arms.{steps_in}
 use Rattle.lowered_types.specs.Table.{all_known, form_never, is_known, type_in}
 use Rattle.lowered_types.proofs.Standing.{known_lt}
-use Rattle.jib_lower.specs.Directions.{WayMade}
 use Rattle.jib_lower.specs.Instances.{MadeAt}
 use Rattle.jib_lower.specs.Lowered.{FlatFrom, NamesMade, OpeningsMade, named_more, named_none, opened_from, opens_let, opens_none}
 use Rattle.jib_lower.specs.Lowered.{opens_register}
@@ -35,7 +34,7 @@ use Rattle.jib_lower.proofs.Placing.{opened_there}
 use Rattle.jib_lower.proofs.Standing.{Laws, called_is_right, event_is_right}
 use Rattle.jib_lower.proofs.Opened.{OpeningLaws, assoc, lets_there, name_is_right, names_types, nones, opens_types, results, value_is_right}
 use Rattle.jib_lower.proofs.Turning.{WayLaws, way_is_right}
-use Rattle.jib_lower.proofs.Ways.{way_is}
+use Rattle.jib_lower.proofs.Found.{way_is}
 
 none_is : {A X : Type 0} (x : A) → None ≡ Some x → X
 none_is x e = cc
@@ -65,10 +64,21 @@ each_of p n (x ∷ xs) h =
 
 -- what stands in two lists, one after the other
 of_two : {A : Type 0} (xs ys : List A) (k : ℕ) (x : A) → slice_get (xs ++ ys) k ≡ Some x
-    → (slice_get xs k ≡ Some x) ⊎ ((j : ℕ) × (slice_get ys j ≡ Some x))
-of_two [] ys k x e = inr (k, e)
+    → (slice_get xs k ≡ Some x) ⊎ ((j : ℕ) × (k ≡ length xs + j) × (slice_get ys j ≡ Some x))
+of_two [] ys k x e = inr (k, begun k, e)
+  where
+    begun : (k : ℕ) → k ≡ 0 + k
+    begun k = omega arith
 of_two (z ∷ xs) ys zero x e = inl e
-of_two (z ∷ xs) ys (suc k) x e = of_two xs ys k x e
+of_two {A = A} (z ∷ xs) ys (suc k) x e = by (of_two xs ys k x e)
+  where
+    next : (n j : ℕ) → k ≡ n + j → suc k ≡ suc n + j
+    next n j is = omega (arith, is)
+
+    by : (slice_get xs k ≡ Some x) ⊎ ((j : ℕ) × (k ≡ length xs + j) × (slice_get ys j ≡ Some x))
+        → (slice_get (z ∷ xs) (suc k) ≡ Some x) ⊎ ((j : ℕ) × (suc k ≡ length (z ∷ xs) + j) × (slice_get ys j ≡ Some x))
+    by (inl h) = inl h
+    by (inr r) = inr (r.0, next (length xs) r.0 r.1, r.2)
 
 -- an even number or an odd one
 halves : (k : ℕ) → (i : ℕ) × ((k ≡ 2 * i) ⊎ (k ≡ 2 * i + 1))
@@ -288,7 +298,7 @@ module _ (core : CoreModel) (sized : SizedCore) (m : Module) (low : FlatFrom cor
     same_function : (i k : ℕ) (f g : Made) → slice_get low.functions k ≡ Some f → k ≡ i → slice_get low.functions i ≡ Some g → g ≡ f
     same_function i k f g e is h = some_same g f (sym h ∙ ap (slice_get low.functions) (sym is) ∙ e)
 
-    instance_right : (k : ℕ) (f : Made) → slice_get low.functions k ≡ Some f → function_right m k f ≡ true
+    instance_right : (k : ℕ) (f : Made) → slice_get low.functions k ≡ Some f → function_right m (length low.ways + k) f ≡ true
     instance_right k f e = by (halves k).0 (halves k).1
       where
         below : k < 2 * length sized.instances
@@ -305,36 +315,38 @@ module _ (core : CoreModel) (sized : SizedCore) (m : Module) (low : FlatFrom cor
             let r = is_there sized.instances i lt in
             (r.0, low.instances.each i r.0 (ap (λ (z : SizedCore). slice_get z.instances i) low.is.of_sized ∙ r.1))
 
-        by : (i : ℕ) → (k ≡ 2 * i) ⊎ (k ≡ 2 * i + 1) → function_right m k f ≡ true
+        by : (i : ℕ) → (k ≡ 2 * i) ⊎ (k ≡ 2 * i + 1) → function_right m (length low.ways + k) f ≡ true
         by i (inl is) =
             let q = made_at i (at_even i is) in
-            subst (λ n. function_right m n f ≡ true) (sym is)
-            (subst (λ g. function_right m (2 * i) g ≡ true) (same_function (2 * i) k f q.1.called e is q.1.called_there)
+            subst (λ n. function_right m (length low.ways + n) f ≡ true) (sym is)
+            (subst (λ g. function_right m (length low.ways + 2 * i) g ≡ true) (same_function (2 * i) k f q.1.called e is q.1.called_there)
             (called_is_right core sized m low laws (lets_there core sized m low) i q.0 q.1))
         by i (inr is) =
             let q = made_at i (at_odd i is) in
-            subst (λ n. function_right m n f ≡ true) (sym is)
-            (subst (λ g. function_right m (2 * i + 1) g ≡ true) (same_function (2 * i + 1) k f q.1.event e is q.1.event_there)
+            subst (λ n. function_right m (length low.ways + n) f ≡ true) (sym is)
+            (subst (λ g. function_right m (length low.ways + (2 * i + 1)) g ≡ true) (same_function (2 * i + 1) k f q.1.event e is q.1.event_there)
             (event_is_right core sized m low laws (lets_there core sized m low) i q.0 q.1))
 
-    way_right : (k n : ℕ) (f : Made) → slice_get low.ways k ≡ Some f → function_right m n f ≡ true
-    way_right k n f e =
+    way_right : (k : ℕ) (f : Made) → slice_get low.ways k ≡ Some f → function_right m k f ≡ true
+    way_right k f e =
         let w = way_is low.model low.directions k f e in
-        way_is_right core sized m low way_laws n w.j w.number w.cycle w.m f w.at (subst (λ d. WayMade low.model d w.number w.cycle w.m f) (begun w.j) w.way)
+        subst (λ n. function_right m n f ≡ true) (begun k) (way_is_right core sized m low way_laws w.d (0 + k) f w.at)
       where
         begun : (j : ℕ) → 0 + j ≡ j
         begun j = omega arith
 
     function_there : (k : ℕ) (f : Made) → slice_get m.functions k ≡ Some f → function_right m k f ≡ true
-    function_there k f e = by (of_two low.functions (low.ways ++ low.opened) k f (ap (λ fs. slice_get fs k) (sym low.all) ∙ e))
+    function_there k f e = by (of_two low.ways (low.functions ++ low.opened) k f (ap (λ fs. slice_get fs k) (sym low.all) ∙ e))
       where
-        behind : (j : ℕ) → (slice_get low.ways j ≡ Some f) ⊎ ((i : ℕ) × (slice_get low.opened i ≡ Some f)) → function_right m k f ≡ true
-        behind j (inl h) = way_right j k f h
-        behind j (inr r) = facts_right 0 low.of_registers low.opened (facts opening_laws) r.0 k f r.1
+        behind : (j : ℕ) → k ≡ length low.ways + j → (slice_get low.functions j ≡ Some f) ⊎ ((i : ℕ) × (j ≡ length low.functions + i)
+            × (slice_get low.opened i ≡ Some f)) → function_right m k f ≡ true
+        behind j is (inl h) = subst (λ n. function_right m n f ≡ true) (sym is) (instance_right j f h)
+        behind j is (inr r) = facts_right 0 low.of_registers low.opened (facts opening_laws) r.0 k f r.2
 
-        by : (slice_get low.functions k ≡ Some f) ⊎ ((j : ℕ) × (slice_get (low.ways ++ low.opened) j ≡ Some f)) → function_right m k f ≡ true
-        by (inl h) = instance_right k f h
-        by (inr r) = behind r.0 (of_two low.ways low.opened r.0 f r.1)
+        by : (slice_get low.ways k ≡ Some f) ⊎ ((j : ℕ) × (k ≡ length low.ways + j) × (slice_get (low.functions ++ low.opened) j ≡ Some f))
+            → function_right m k f ≡ true
+        by (inl h) = way_right k f h
+        by (inr r) = behind r.0 r.1 (of_two low.functions low.opened r.0 f r.2)
 
     zero_more : (k : ℕ) → k ≡ 0 + k
     zero_more k = omega arith
@@ -348,7 +360,7 @@ module _ (core : CoreModel) (sized : SizedCore) (m : Module) (low : FlatFrom cor
         (each_of (function_right m) 0 m.functions
         (λ k f h. subst (λ n. function_right m n f ≡ true) (zero_more k) (function_there k f h))))
         (ap (each (opening_right m) 0) low.opens
-        ∙ facts_open 0 (2 * length sized.instances + length low.ways) low.of_registers low.opened (facts opening_laws) (opened_there core sized m low))
+        ∙ facts_open 0 (length low.ways + 2 * length sized.instances) low.of_registers low.opened (facts opening_laws) (opened_there core sized m low))
       where
         a : Bool
         a = each typ_right 0 m.types

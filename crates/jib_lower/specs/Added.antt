@@ -43,7 +43,7 @@ pub record MadeBy (model : Model) (x : SizedInstance) (cycle : ℕ) (called even
   pub head : Head
   pub found : slice_get model.core.now.functions x.instance.function ≡ Some function
   pub plain : IsPlain x signature
-  pub setting : SettingOf model x.bodies x.instance.numbers (function_reads x.bodies function) walk.setting.now
+  pub setting : SettingOf model x.bodies x.instance.numbers (function_reads x.bodies function) model.directions.now walk.setting.now
   pub around : AroundOf model x signature walk.around.now
   pub judged : (judge.setting.now ≡ walk.setting.now) × (judge.around.now ≡ walk.around.now)
   pub signs : SignsOf model signature cycle judge.signs.now

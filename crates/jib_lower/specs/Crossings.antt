@@ -1,54 +1,86 @@
--- Which directions of mappings are made: those that are called. And the numbers of their cycles of calls.
+-- Which directions of mappings are made: those that are asked. And the numbers of their cycles of calls.
 use Rattle.std.specs.Prelude.{◌≡◌, ℕ, zero, suc, ◌+◌, ◌/◌, nat_eq, nat_lt, Bool, true, false, ◌&&◌, ◌||◌, List, [], ◌∷◌, ◌++◌, length, map}
 use Rattle.std.specs.Prelude.{Option, Some, None, slice_get, if◌then◌else◌}
 use Rattle.sail_core.specs.declared.model.CoreModel.{CoreModel}
 use Rattle.sail_core.specs.declared.model.Direction.{Direction}
 use Rattle.sail_core.specs.declared.model.Function.{Function}
+use Rattle.sail_core.specs.declared.patterns.Arm.{Arm}
+use Rattle.sail_core.specs.declared.patterns.Step.{Step}
+use Rattle.sail_core.specs.declared.patterns.Step.TheVariants as P
 use Rattle.sail_core.specs.declared.tree.Callee.{Callee}
 use Rattle.sail_core.specs.declared.tree.Callee.TheVariants as F
 use Rattle.sail_core.specs.declared.tree.Core.{Core, fold-Core}
 use Rattle.sail_core.specs.declared.tree.Kind.{Kind}
 use Rattle.sail_core.specs.declared.tree.Kind.TheVariants as K
+use Rattle.sail_core.specs.declared.tree.Statement.{Statement}
+use Rattle.sail_core.specs.declared.tree.Statement.TheVariants as S
 use Rattle.sized_nodes.specs.declared.trees.Lead.{Lead}
 use Rattle.sized_nodes.specs.declared.trees.NodeSizes.{NodeSizes}
 use Rattle.sized_nodes.specs.declared.trees.NodeSizes.TheVariants as N
 use Rattle.sized_nodes.specs.declared.trees.SizedCore.{SizedCore}
 use Rattle.sized_nodes.specs.declared.trees.SizedInstance.{SizedInstance}
+use Rattle.lowered_pieces.specs.Arms.{steps_in}
 use Rattle.lowered_pieces.specs.Functions.{measure_of}
 use Rattle.lowered_laws.specs.Returning.{returns_nothing}
 use Rattle.jib_lower.specs.Cycles.{cycle_at, mapping_falls}
 
--- ---- the directions that are called
+-- ---- the directions that are asked: by calls, and by patterns
 
 abbrev pub called_as : Callee → List ℕ
 called_as (F.Applies d) = d ∷ []
 called_as callee = []
 
-abbrev pub called_here : Kind → List ℕ
-called_here (K.Call callee) = called_as callee
-called_here kind = []
+abbrev pub seen_as : Step → List ℕ
+seen_as (P.Sees i d) = d ∷ []
+seen_as step = []
+
+abbrev pub seen_in : List Step → List ℕ
+seen_in [] = []
+seen_in (s ∷ ss) = seen_as s ++ seen_in ss
+
+abbrev pub seen_by : List Arm → List ℕ
+seen_by [] = []
+seen_by (arm ∷ arms) = seen_in (steps_in arm) ++ seen_by arms
+
+-- in the patterns of statements
+abbrev pub stated_as : Statement → List ℕ
+stated_as (S.Define place arm) = seen_in (steps_in arm)
+stated_as statement = []
+
+abbrev pub stated_in : List Statement → List ℕ
+stated_in [] = []
+stated_in (s ∷ ss) = stated_as s ++ stated_in ss
+
+abbrev pub asked_here : Kind → List ℕ
+asked_here (K.Call callee) = called_as callee
+asked_here (K.Let arm) = seen_in (steps_in arm)
+asked_here (K.Match arms shape) = seen_by arms
+asked_here (K.Try arms shape) = seen_by arms
+asked_here (K.Clauses arms) = seen_by arms
+asked_here (K.Block statements) = stated_in statements
+asked_here kind = []
 
 abbrev pub joined : List (List ℕ) → List ℕ
 joined [] = []
 joined (ds ∷ rest) = ds ++ joined rest
 
 -- in a tree, in order
-abbrev pub called_in : Core → List ℕ
-called_in = fold-Core (List ℕ) (λ c. called_here c.kind ++ joined c.parts)
+abbrev pub asked_in : Core → List ℕ
+asked_in = fold-Core (List ℕ) (λ c. asked_here c.kind ++ joined c.parts)
 
-abbrev pub called_if : Option Core → List ℕ
-called_if None = []
-called_if (Some c) = called_in c
+abbrev pub asked_if : Option Core → List ℕ
+asked_if None = []
+asked_if (Some c) = asked_in c
 
 -- in a function, its measure with it where it is in a cycle
-abbrev pub called_by : Function → List ℕ
-called_by f = called_in f.body ++ called_if (measure_of f.cycle f.measure)
+abbrev pub asked_by : Function → List ℕ
+asked_by f = asked_in f.body ++ asked_if (measure_of f.cycle f.measure)
 
 -- in each direction
 abbrev pub calls_of : List Direction → List (List ℕ)
-calls_of ms = map (λ m. called_in m.body) ms
+calls_of ms = map (λ m. asked_in m.body) ms
 
--- ---- and those that their calls lead to
+-- ---- and those that these lead to
 
 abbrev pub is_in : ℕ → List ℕ → Bool
 is_in d [] = false
@@ -66,7 +98,7 @@ abbrev pub list_at : Option (List ℕ) → List ℕ
 list_at None = []
 list_at (Some ds) = ds
 
--- so those that these call
+-- so those that these ask
 abbrev pub with_behind : List (List ℕ) → List ℕ → List ℕ → List ℕ
 with_behind calls [] seen = seen
 with_behind calls (d ∷ ds) seen = with_behind calls ds (with_all (list_at (slice_get calls d)) seen)
@@ -83,7 +115,7 @@ leads_from calls ds = reached calls (length calls + 1) (with_all ds [])
 
 -- by functions
 abbrev pub turns_by : List (List ℕ) → List Function → List (List ℕ)
-turns_by calls fs = map (λ f. leads_from calls (called_by f)) fs
+turns_by calls fs = map (λ f. leads_from calls (asked_by f)) fs
 
 abbrev pub turns_of : CoreModel → List (List ℕ)
 turns_of core = turns_by (calls_of core.directions) core.functions
@@ -122,7 +154,7 @@ abbrev pub turned_as : List ℕ → List SizedInstance → List (List NodeSizes)
 turned_as numbers xs mappings calls wanted d ds =
     if is_in d wanted then Some (highest_of numbers xs mappings (d ∷ leads_from calls ds)) else None
 
--- of the directions from the d-th on, each of which calls these
+-- of the directions from the d-th on, each of which asks these
 abbrev pub turned_from : List ℕ → List SizedInstance → List (List NodeSizes) → List (List ℕ) → List ℕ → ℕ → List (List ℕ) → List (Option ℕ)
 turned_from numbers xs mappings calls wanted d [] = []
 turned_from numbers xs mappings calls wanted d (ds ∷ rest) =
@@ -143,12 +175,6 @@ way_falls numbers xs nodes (Some own) = mapping_falls numbers xs own nodes
 abbrev pub ways_fall : List ℕ → List SizedInstance → List (List NodeSizes) → ℕ → List (Option ℕ) → Bool
 ways_fall numbers xs mappings d [] = true
 ways_fall numbers xs mappings d (own ∷ turned) = way_falls numbers xs (slice_get mappings (d / 2)) own && ways_fall numbers xs mappings (d + 1) turned
-
--- how many directions have one
-abbrev pub made_many : List (Option ℕ) → ℕ
-made_many [] = 0
-made_many (None ∷ turned) = made_many turned
-made_many (Some cycle ∷ turned) = made_many turned + 1
 
 -- nothing in the body of a direction returns
 abbrev pub AllStay : List Direction → Type 0

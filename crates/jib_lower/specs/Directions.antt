@@ -1,5 +1,5 @@
--- The functions of directions of mappings: how each is made that has a number of a cycle.
-use Rattle.std.specs.Prelude.{◌≡◌, ℕ, ◌+◌, ◌/◌, Bool, true, false, ◌&&◌, List, [], ◌∷◌, ◌++◌, length, Option, Some, None, slice_get}
+-- The functions of directions of mappings: how each is made that stands in the order of a model.
+use Rattle.std.specs.Prelude.{◌≡◌, ℕ, ◌+◌, ◌/◌, Bool, true, false, ◌&&◌, List, [], ◌∷◌, ◌++◌, length, Some, slice_get}
 use Rattle.sail_types.specs.declared.types.Typ.{Typ}
 use Rattle.sail_core.specs.declared.model.Direction.{Direction}
 use Rattle.sail_core.specs.declared.tree.Core.{Core, out-Core}
@@ -11,7 +11,7 @@ use Rattle.lowered_types.specs.Table.{is_known, type_in}
 use Rattle.lowered_pieces.specs.declared.coding.Coding.{Coding}
 use Rattle.lowered_pieces.specs.Mapped.{ends_with, fixed_end}
 use Rattle.lowered_pieces.specs.Places.{Naming}
-use Rattle.lowered_ends.specs.declared.around.Mapped.{Mapped}
+use Rattle.lowered_steps.specs.declared.setting.Mapped.{Mapped}
 use Rattle.lowered_ends.specs.Around.{node_for}
 use Rattle.lowered_functions.specs.Walk.{Walk}
 use Rattle.lowered_functions.specs.Made.{CodeMade, mapping_for}
@@ -36,22 +36,24 @@ pub record WayCode (walk : Walk) (judge : Judge) (head : Head) (m : Direction) (
   pub ends : (name : Naming) → ends_with payload (fixed_end (node_for walk.setting.now walk.around.now name clauses).piece.ends) ≡ true
   pub right : (typed judge m.body).right ≡ true
   pub coding : Coding
-  pub code : CodeMade walk coding head.given.now (λ name. mapping_for walk name true m.place typ clauses)
+  pub code : CodeMade walk coding head.given.now (λ name. mapping_for walk name m.place typ clauses)
   pub is : FunctionMade walk.setting.now head coding made
 
--- what is around the function of a direction with nodes of its mapping, where calls of it enter this one and have this number of a cycle
+-- what is around the function of a direction with nodes of its mapping, where this is entered that has this number of a cycle: it may ask the directions the
+-- functions of which stand before it
 pub record WayAround (model : Model) (bodies : List (List NodeSizes)) (m : Direction) (x : Mapped) (cycle : ℕ) (walk : Walk) (judge : Judge) (head : Head)
     : Type 0 where
-  pub setting : SettingOf model bodies [] (tree_reads bodies m.body) walk.setting.now
+  pub setting : SettingOf model bodies [] (tree_reads bodies m.body) model.directions.now walk.setting.now
   pub instances : walk.around.now.instances.now ≡ model.sized.now.instances
   pub given : walk.around.now.given.now ≡ x.takes ∷ []
   pub openings : walk.around.now.openings.now ≡ model.openings.now
-  pub directions : walk.around.now.directions.now ≡ model.directions.now
+  pub before : walk.around.now.before ≡ model.before
   pub judged : (judge.setting.now ≡ walk.setting.now) × (judge.around.now ≡ walk.around.now)
   pub shell : judge.signs.now.shell.now ≡ model.shell.now
   pub lets : judge.signs.now.lets.now ≡ model.lets.now
   pub called : judge.signs.now.called.now ≡ model.called.now
   pub turned : judge.signs.now.turned.now ≡ model.turned.now
+  pub below : judge.signs.now.below ≡ x.function
   pub result : judge.signs.now.result ≡ type_in model.numbered.now x.gives
   pub is_pure : judge.signs.now.is_pure ≡ false
   pub cycle_is : judge.signs.now.cycle ≡ cycle
@@ -61,7 +63,7 @@ pub record WayAround (model : Model) (bodies : List (List NodeSizes)) (m : Direc
   pub reads : head.lets ≡ length model.lets.now
   pub impure : head.is_pure ≡ false
 
--- the function of a direction, by what calls of it enter and by the nodes of its mapping
+-- the function of a direction, by what is entered where it is asked and by the nodes of its mapping
 pub record WayTaken (model : Model) (bodies : List (List NodeSizes)) (m : Direction) (x : Mapped) (cycle : ℕ) (made : Made) : Type 0 where
   pub typ : Typ
   pub clauses : Core
@@ -72,12 +74,12 @@ pub record WayTaken (model : Model) (bodies : List (List NodeSizes)) (m : Direct
   pub around : WayAround model bodies m x cycle walk judge head
   pub code : WayCode walk judge head m typ clauses x.payload made
 
--- the types of what calls of it enter have numbers
+-- the types of what is entered have numbers
 abbrev pub types_known : List Sized → Mapped → Bool
 types_known ss x = is_known ss x.takes && (is_known ss x.gives && is_known ss x.payload)
 
--- the function of the d-th direction, which has this number, where calls of it have one of a cycle: nothing in any direction returns, and of one node's number
--- there is one note of what its mapping calls
+-- the function of the d-th direction, which has this number, and one of a cycle: nothing in any direction returns, and of one node's number there is one note
+-- of what its mapping calls
 pub record WayMade (model : Model) (d number cycle : ℕ) (m : Direction) (made : Made) : Type 0 where
   pub stay : AllStay model.core.now.directions
   pub nodes : List NodeSizes
@@ -86,24 +88,29 @@ pub record WayMade (model : Model) (d number cycle : ℕ) (m : Direction) (made 
   pub known : types_known model.numbered.now (mapped_by model.core.now.types number m) ≡ true
   pub taken : WayTaken model (nodes ∷ []) m (mapped_by model.core.now.types number m) cycle made
 
--- the functions of directions from the d-th on that have a number of a cycle, the first of which has this number
-pub data WaysMade (model : Model) : ℕ → ℕ → List Direction → List (Option ℕ) → List Made → Type 0 where
-  ways_none : {d number : ℕ} → WaysMade model d number [] [] []
-  way_made : {d number cycle : ℕ} {m : Direction} {ms : List Direction} {turned : List (Option ℕ)} {made : Made} {rest : List Made}
-      → WayMade model d number cycle m made → WaysMade model (d + 1) (number + 1) ms turned rest
-      → WaysMade model d number (m ∷ ms) (Some cycle ∷ turned) (made ∷ rest)
-  way_left : {d number : ℕ} {m : Direction} {ms : List Direction} {turned : List (Option ℕ)} {rest : List Made}
-      → WaysMade model (d + 1) number ms turned rest → WaysMade model d number (m ∷ ms) (None ∷ turned) rest
+-- so that of the d-th direction, which has a number of a cycle
+pub record WayAt (model : Model) (d number : ℕ) (made : Made) : Type 0 where
+  pub direction : Direction
+  pub cycle : ℕ
+  pub found : slice_get model.core.now.directions d ≡ Some direction
+  pub turned : slice_get model.turned.now d ≡ Some (Some cycle)
+  pub is : WayMade model d number cycle direction made
 
-pub record WaysAdded (model : Model) (d number : ℕ) (directions : List Direction) (turned : List (Option ℕ)) (old new : List Made) : Type 0 where
+-- the functions of these directions, the first of which has this number
+pub data WaysMade (model : Model) : ℕ → List ℕ → List Made → Type 0 where
+  ways_none : {number : ℕ} → WaysMade model number [] []
+  way_made : {d number : ℕ} {ds : List ℕ} {made : Made} {rest : List Made} → WayAt model d number made → WaysMade model (number + 1) ds rest
+      → WaysMade model number (d ∷ ds) (made ∷ rest)
+
+pub record WaysAdded (model : Model) (number : ℕ) (ds : List ℕ) (old new : List Made) : Type 0 where
   pub added : List Made
   pub is : new ≡ old ++ added
-  pub made : WaysMade model d number directions turned added
+  pub made : WaysMade model number ds added
 
--- the functions of instances, and behind these, which are so many, those of directions
-pub record FunctionsMade (model : Model) (before : ℕ) (functions : List Made) : Type 0 where
+-- the functions of directions, and behind these those of instances
+pub record FunctionsMade (model : Model) (functions : List Made) : Type 0 where
+  pub ways : List Made
+  pub directions : WaysMade model 0 model.order.now ways
   pub called : List Made
   pub instances : InstancesMade model called
-  pub ways : List Made
-  pub directions : WaysMade model 0 before model.core.now.directions model.turned.now ways
-  pub all : functions ≡ called ++ ways
+  pub all : functions ≡ ways ++ called

@@ -1,5 +1,5 @@
--- What calls of directions of mappings enter.
-use Rattle.std.specs.Prelude.{ℕ, ◌+◌, List, [], ◌∷◌, Option, Some, None}
+-- What is entered where directions of mappings are asked.
+use Rattle.std.specs.Prelude.{ℕ, ◌+◌, List, [], ◌∷◌, nat_eq, if◌then◌else◌}
 use Rattle.sail_types.specs.declared.table.Types.{Types}
 use Rattle.sail_core.specs.declared.model.Direction.{Direction}
 use Rattle.sail_core.specs.declared.tree.Core.{out-Core}
@@ -9,7 +9,7 @@ use Rattle.sail_core.specs.Meaning.{option_typ}
 use Rattle.size_values.specs.declared.sized.Sized.{Sized}
 use Rattle.size_values.specs.declared.sized.Sized.TheVariants as S
 use Rattle.checked_meaning.specs.Items.{fixed_typ}
-use Rattle.lowered_ends.specs.declared.around.Mapped.{Mapped}
+use Rattle.lowered_steps.specs.declared.setting.Mapped.{Mapped}
 
 -- what an option holds that a body of this kind gives, and the option
 abbrev pub payload_in : Types → Kind → Sized
@@ -29,9 +29,12 @@ mapped_by types number m = record {
   payload = payload_in types (out-Core m.body).kind;
 }
 
--- of each direction, where the first that has a number of a cycle is the function of this number
-abbrev pub mapped_from : Types → ℕ → List Direction → List (Option ℕ) → List Mapped
-mapped_from types number [] turned = []
-mapped_from types number (m ∷ ms) [] = mapped_by types number m ∷ mapped_from types number ms []
-mapped_from types number (m ∷ ms) (None ∷ turned) = mapped_by types number m ∷ mapped_from types number ms turned
-mapped_from types number (m ∷ ms) (Some cycle ∷ turned) = mapped_by types number m ∷ mapped_from types (number + 1) ms turned
+-- where a direction stands among these; behind all where it is none of them
+abbrev pub place_in : List ℕ → ℕ → ℕ
+place_in [] d = 0
+place_in (x ∷ xs) d = if nat_eq d x then 0 else place_in xs d + 1
+
+-- of the directions from the d-th on, the functions of which stand in this order
+abbrev pub mapped_from : Types → List ℕ → ℕ → List Direction → List Mapped
+mapped_from types order d [] = []
+mapped_from types order d (m ∷ ms) = mapped_by types (place_in order d) m ∷ mapped_from types order (d + 1) ms

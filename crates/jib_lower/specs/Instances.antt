@@ -13,6 +13,7 @@ use Rattle.sized_nodes.specs.declared.trees.SizedInstance.{SizedInstance}
 use Rattle.jib.specs.declared.code.Function.{Function as Made}
 use Rattle.lowered_types.specs.Table.{type_in}
 use Rattle.lowered_pieces.specs.Nodes.{all_plain, plain_told, told_as}
+use Rattle.lowered_steps.specs.declared.setting.Mapped.{Mapped}
 use Rattle.lowered_steps.specs.declared.setting.Reads.{Reads}
 use Rattle.lowered_steps.specs.declared.setting.Setting.{Setting}
 use Rattle.lowered_ends.specs.declared.around.Around.{Around}
@@ -22,7 +23,7 @@ use Rattle.lowered_typed.specs.declared.signs.Judge.{Judge}
 use Rattle.lowered_typed.specs.declared.signs.Signs.{Signs}
 use Rattle.jib_lower.specs.declared.functions.Head.{Head}
 use Rattle.jib_lower.specs.declared.instances.Model.{Model}
-use Rattle.jib_lower.specs.Crossings.{turned_by, turns_of, ways_fall}
+use Rattle.jib_lower.specs.Crossings.{turned_by, turns_of}
 use Rattle.jib_lower.specs.Cycles.{NumbersFit}
 use Rattle.jib_lower.specs.Functions.{InstanceMade}
 use Rattle.jib_lower.specs.Reads.{function_reads}
@@ -30,13 +31,15 @@ use Rattle.jib_lower.specs.Reads.{function_reads}
 abbrev pub number_among : List Sized → Sized → ℕ
 number_among = type_in
 
--- what the code of a function is made by, which reads its variables at these types
-pub record SettingOf (model : Model) (bodies : List (List NodeSizes)) (numbers : List (Option ℤ)) (reads : List Reads) (setting : Setting) : Type 0 where
+-- what the code of a function is made by, which reads its variables at these types, and may ask these directions of mappings
+pub record SettingOf (model : Model) (bodies : List (List NodeSizes)) (numbers : List (Option ℤ)) (reads : List Reads) (directions : List Mapped)
+    (setting : Setting) : Type 0 where
   pub types : setting.types.now ≡ model.core.now.types
   pub numbered : setting.numbered.now ≡ model.numbered.now
   pub bodies_are : setting.bodies.now ≡ bodies
   pub numbers_are : setting.numbers.now ≡ numbers
   pub reads_are : setting.reads.now ≡ reads
+  pub directions_are : setting.directions.now ≡ directions
   pub nothing : setting.nothing.now ≡ model.nothing.now
   pub truths : setting.truths.now ≡ model.truths.now
   pub unit : setting.unit ≡ type_in model.numbered.now model.nothing.now
@@ -48,9 +51,9 @@ pub record AroundOf (model : Model) (x : SizedInstance) (s : Signature) (around 
   pub instances : around.instances.now ≡ model.sized.now.instances
   pub given : around.given.now ≡ map told_as s.parameters
   pub openings : around.openings.now ≡ model.openings.now
-  pub directions : around.directions.now ≡ model.directions.now
+  pub before : around.before ≡ model.before
 
--- the types of what is around the functions of an instance, the calls of which have this number of a cycle
+-- the types of what is around the functions of an instance, the calls of which have this number of a cycle: they may ask each direction that has a function
 pub record SignsOf (model : Model) (s : Signature) (cycle : ℕ) (signs : Signs) : Type 0 where
   pub shell : signs.shell.now ≡ model.shell.now
   pub lets : signs.lets.now ≡ model.lets.now
@@ -59,6 +62,7 @@ pub record SignsOf (model : Model) (s : Signature) (cycle : ℕ) (signs : Signs)
   pub cycle_is : signs.cycle ≡ cycle
   pub called : signs.called.now ≡ model.called.now
   pub turned : signs.turned.now ≡ model.turned.now
+  pub below : signs.below ≡ model.before
 
 pub record HeadOf (model : Model) (s : Signature) (cycle : ℕ) (head : Head) : Type 0 where
   pub given : head.given.now ≡ map told_as s.parameters
@@ -101,7 +105,7 @@ pub record MadeAt (model : Model) (functions : List Made) (i : ℕ) (x : SizedIn
   pub found : slice_get model.core.now.functions x.instance.function ≡ Some function
   pub plain : IsPlain x signature
   pub enters : slice_get model.called.now i ≡ Some called_is
-  pub setting : SettingOf model x.bodies x.instance.numbers (function_reads x.bodies function) walk.setting.now
+  pub setting : SettingOf model x.bodies x.instance.numbers (function_reads x.bodies function) model.directions.now walk.setting.now
   pub around : AroundOf model x signature walk.around.now
   pub judged : (judge.setting.now ≡ walk.setting.now) × (judge.around.now ≡ walk.around.now)
   pub signs : SignsOf model signature called_is.cycle judge.signs.now

@@ -29,7 +29,7 @@ use Rattle.lowered_pieces.specs.Places.{Naming}
 use Rattle.lowered_steps.specs.declared.setting.Reads.{Reads}
 use Rattle.lowered_steps.specs.declared.setting.Setting.{Setting}
 use Rattle.lowered_steps.specs.Setting.{number_for}
-use Rattle.lowered_ends.specs.declared.around.Mapped.{Mapped}
+use Rattle.lowered_steps.specs.declared.setting.Mapped.{Mapped}
 use Rattle.lowered_ends.specs.Around.{node_for}
 use Rattle.lowered_tables.specs.Built.{SomeNoValueType, value_at}
 use Rattle.lowered_functions.specs.Walk.{Walk}
@@ -54,7 +54,8 @@ use Rattle.jib_lower.specs.Reads.{function_reads, tree_reads}
 
 -- ---- types
 
--- where these directions have a number of a cycle: types are nested too deeply, or one of them has no value type, or is too wide, or has one that modules don't have
+-- where these directions have a number of a cycle: types are nested too deeply, or one of them has no value type, or is too wide, or has one that modules don't
+-- have
 pub data TypesLeft (core : CoreModel) (sized : SizedCore) (turned : List (Option ℕ)) : Type 0 where
   nested_types : numbered_types core sized turned ≡ None → TypesLeft core sized turned
   no_value_type : {numbered : List Sized} → numbered_types core sized turned ≡ Some numbered → SomeNoValueType core.types numbered numbered
@@ -116,7 +117,7 @@ pub record MakingLeft (model : Model) (x : SizedInstance) (cycle : ℕ) : Type 0
   pub head : Head
   pub found : slice_get model.core.now.functions x.instance.function ≡ Some function
   pub plain : IsPlain x signature
-  pub setting : SettingOf model x.bodies x.instance.numbers (function_reads x.bodies function) walk.setting.now
+  pub setting : SettingOf model x.bodies x.instance.numbers (function_reads x.bodies function) model.directions.now walk.setting.now
   pub around : AroundOf model x signature walk.around.now
   pub judged : (judge.setting.now ≡ walk.setting.now) × (judge.around.now ≡ walk.around.now)
   pub signs : SignsOf model signature cycle judge.signs.now
@@ -146,7 +147,7 @@ pub data WayCodeLeft (walk : Walk) (judge : Judge) (head : Head) (m : Direction)
   way_of_others : ((name : Naming) → ends_with payload (fixed_end (node_for walk.setting.now walk.around.now name clauses).piece.ends) ≡ false)
       → WayCodeLeft walk judge head m typ clauses payload
   way_not_right : (typed judge m.body).right ≡ false → WayCodeLeft walk judge head m typ clauses payload
-  way_not_coded : CodeLeft walk head head.given.now (λ name. mapping_for walk name true m.place typ clauses)
+  way_not_coded : CodeLeft walk head head.given.now (λ name. mapping_for walk name m.place typ clauses)
       → WayCodeLeft walk judge head m typ clauses payload
 
 pub record WayFunctionLeft (model : Model) (bodies : List (List NodeSizes)) (m : Direction) (x : Mapped) (cycle : ℕ) : Type 0 where
@@ -178,38 +179,44 @@ pub data WayLeft (model : Model) (d number cycle : ℕ) (m : Direction) : Type 0
   way_by_left : {nodes : List NodeSizes} → slice_get model.sized.now.mappings (d / 2) ≡ Some nodes → WayByLeft model (nodes ∷ []) number cycle m
       → WayLeft model d number cycle m
 
--- one of several, from the d-th on, the first of which that has a number of a cycle has this number; or numbers of cycles aren't said of just these
-pub data WaysLeft (model : Model) : ℕ → ℕ → List Direction → List (Option ℕ) → Type 0 where
-  way_untold : {d number : ℕ} {m : Direction} {ms : List Direction} → WaysLeft model d number (m ∷ ms) []
-  way_nowhere : {d number : ℕ} {turned : List (Option ℕ)} → (turned ≡ [] → ⊥) → WaysLeft model d number [] turned
-  way_here : {d number cycle : ℕ} {m : Direction} {ms : List Direction} {turned : List (Option ℕ)}
-      → WayLeft model d number cycle m → WaysLeft model d number (m ∷ ms) (Some cycle ∷ turned)
-  way_behind : {d number cycle : ℕ} {m : Direction} {ms : List Direction} {turned : List (Option ℕ)}
-      → WaysLeft model (d + 1) (number + 1) ms turned → WaysLeft model d number (m ∷ ms) (Some cycle ∷ turned)
-  way_past : {d number : ℕ} {m : Direction} {ms : List Direction} {turned : List (Option ℕ)}
-      → WaysLeft model (d + 1) number ms turned → WaysLeft model d number (m ∷ ms) (None ∷ turned)
+-- it has no number of a cycle
+abbrev pub NoCycle : List (Option ℕ) → ℕ → Type 0
+NoCycle turned d = (cycle : ℕ) → slice_get turned d ≡ Some (Some cycle) → ⊥
+
+-- so of the d-th one; or there is none, or it has no number of a cycle
+pub data WayAtLeft (model : Model) (d number : ℕ) : Type 0 where
+  no_direction : slice_get model.core.now.directions d ≡ None → WayAtLeft model d number
+  no_cycle : NoCycle model.turned.now d → WayAtLeft model d number
+  way_left : {cycle : ℕ} {m : Direction} → slice_get model.core.now.directions d ≡ Some m → slice_get model.turned.now d ≡ Some (Some cycle)
+      → WayLeft model d number cycle m → WayAtLeft model d number
+
+-- one of these, the first of which has this number
+pub data WaysLeft (model : Model) : ℕ → List ℕ → Type 0 where
+  way_here : {d number : ℕ} {ds : List ℕ} → WayAtLeft model d number → WaysLeft model number (d ∷ ds)
+  way_behind : {d number : ℕ} {ds : List ℕ} → WaysLeft model (number + 1) ds → WaysLeft model number (d ∷ ds)
 
 -- ---- openings
 
 -- what the code of an opening is made by, where variables are read at these types and openings of names stand before it
 pub record OpeningWalked (model : Model) (bodies : List (List NodeSizes)) (told : List Reads) (names : List ℕ) (walk : Walk) : Type 0 where
-  pub setting : SettingOf model bodies [] told walk.setting.now
+  pub setting : SettingOf model bodies [] told [] walk.setting.now
   pub instances : walk.around.now.instances.now ≡ model.sized.now.instances
   pub given : walk.around.now.given.now ≡ []
   pub openings : walk.around.now.openings.now ≡ names
-  pub directions : walk.around.now.directions.now ≡ []
+  pub before_is : walk.around.now.before ≡ model.before
 
 -- what it is judged by before a type of it is known, where openings of these types stand before it as well
 pub record OpeningJudged (model : Model) (bodies : List (List NodeSizes)) (told : List Reads) (before names : List ℕ) (judge : Judge) : Type 0 where
-  pub setting : SettingOf model bodies [] told judge.setting.now
+  pub setting : SettingOf model bodies [] told [] judge.setting.now
   pub instances : judge.around.now.instances.now ≡ model.sized.now.instances
   pub given : judge.around.now.given.now ≡ []
   pub openings : judge.around.now.openings.now ≡ names
-  pub directions : judge.around.now.directions.now ≡ []
+  pub before_is : judge.around.now.before ≡ model.before
   pub shell : judge.signs.now.shell.now ≡ model.shell.now
   pub lets : judge.signs.now.lets.now ≡ before
   pub called : judge.signs.now.called.now ≡ []
   pub turned : judge.signs.now.turned.now ≡ []
+  pub below : judge.signs.now.below ≡ 0
   pub result : judge.signs.now.result ≡ judge.setting.now.unit
   pub is_pure : judge.signs.now.is_pure ≡ true
 

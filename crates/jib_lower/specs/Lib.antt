@@ -4,6 +4,8 @@ pub mod Types
 pub mod Tabled
 pub mod Cycles
 pub mod Crossings
+pub mod Order
+pub mod Rounds
 pub mod Functions
 pub mod Reads
 pub mod Instances

@@ -28,10 +28,10 @@ pub record OpenedLeft (core : CoreModel) (sized : SizedCore) (parts : Parts) : T
   pub is : ModelBy core sized parts bare
   pub why : OpeningsLeft bare 0 bare.core.now.openings [] []
 
--- one of the instances, or of the directions behind them
-pub data SomeLeft (model : Model) (before : ℕ) : Type 0 where
-  instance_left : InstancesLeft model 0 model.sized.now.instances → SomeLeft model before
-  direction_left : WaysLeft model 0 before model.core.now.directions model.turned.now → SomeLeft model before
+-- one of the directions that are made, or of the instances behind them
+pub data SomeLeft (model : Model) : Type 0 where
+  direction_left : WaysLeft model 0 model.order.now → SomeLeft model
+  instance_left : InstancesLeft model 0 model.sized.now.instances → SomeLeft model
 
 -- which may read what was made of the openings
 pub record FunctionsLeft (core : CoreModel) (sized : SizedCore) (parts : Parts) (opened : Opened) : Type 0 where
@@ -39,7 +39,7 @@ pub record FunctionsLeft (core : CoreModel) (sized : SizedCore) (parts : Parts) 
   pub is : ModelBy core sized parts model
   pub lets : model.lets.now ≡ opened.types
   pub names : model.openings.now ≡ opened.names
-  pub why : SomeLeft model parts.before
+  pub why : SomeLeft model
 
 -- why a model with flat arms isn't lowered: two calls of an instance or of an opening have one number, or a part isn't made
 pub data FlatLeft (core : CoreModel) (sized : SizedCore) : Type 0 where

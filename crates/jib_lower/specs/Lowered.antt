@@ -1,4 +1,4 @@
--- What the module of a model is: the functions of its instances, behind them those of directions of mappings, and of top-level lets and initial values.
+-- What the module of a model is: the functions of directions of mappings, behind them those of its instances, and of top-level lets and initial values.
 use Rattle.std.specs.Prelude.{◌≡◌, ◌≤◌, ℕ, pos, ◌+◌, ◌*◌, Bool, true, false, not, ◌&&◌, ◌||◌, List, [], ◌∷◌, ◌++◌, length, map, Option, Some, None}
 use Rattle.std.specs.Prelude.{slice_get}
 use Rattle.std.specs.Str.{bytes_eq}
@@ -33,7 +33,7 @@ use Rattle.lowered_pieces.specs.Mapped.{ends_with, fixed_end}
 use Rattle.lowered_pieces.specs.Places.{Naming}
 use Rattle.lowered_steps.specs.declared.setting.Reads.{Reads}
 use Rattle.lowered_steps.specs.declared.setting.Setting.{Setting}
-use Rattle.lowered_steps.specs.Setting.{kit_for, reads_at, size_for}
+use Rattle.lowered_steps.specs.Setting.{crosses_for, kit_for, reads_at, size_for}
 use Rattle.lowered_laws.specs.Opened.{held_typ}
 use Rattle.lowered_ends.specs.declared.around.Around.{Around}
 use Rattle.lowered_ends.specs.Around.{node_for}
@@ -50,29 +50,32 @@ use Rattle.tabled_models.specs.Cores.{core_tabled}
 use Rattle.jib_lower.specs.declared.functions.Head.{Head}
 use Rattle.jib_lower.specs.declared.instances.Model.{Model}
 use Rattle.jib_lower.specs.declared.openings.Opened.{Opened}
+use Rattle.jib_lower.specs.Crossings.{calls_of}
 use Rattle.jib_lower.specs.Directions.{WaysMade}
 use Rattle.jib_lower.specs.Entering.{mapped_from}
 use Rattle.jib_lower.specs.Functions.{FunctionMade}
 use Rattle.jib_lower.specs.Instances.{CalledAre, InstancesMade, SettingOf, leads_alone}
+use Rattle.jib_lower.specs.Order.{Ordered, made_in}
 use Rattle.jib_lower.specs.Reads.{tree_reads}
 use Rattle.jib_lower.specs.Types.{all_in_bodies, all_in_instances, all_in_registers, all_in_ways, all_small, exception_typ}
 
 -- ---- openings
 
--- what is around the function of an opening, where variables are read at these types, openings of these types stand before it and these are of names: pure, and
--- over no arguments
+-- what is around the function of an opening, where variables are read at these types, openings of these types stand before it and these are of names: pure,
+-- over no arguments, and it asks no direction
 pub record OpeningAround (model : Model) (bodies : List (List NodeSizes)) (told : List Reads) (before names : List ℕ) (walk : Walk) (judge : Judge)
     (head : Head) : Type 0 where
-  pub setting : SettingOf model bodies [] told walk.setting.now
+  pub setting : SettingOf model bodies [] told [] walk.setting.now
   pub instances : walk.around.now.instances.now ≡ model.sized.now.instances
   pub given : walk.around.now.given.now ≡ []
   pub openings : walk.around.now.openings.now ≡ names
-  pub directions : walk.around.now.directions.now ≡ []
+  pub before_is : walk.around.now.before ≡ model.before
   pub judged : (judge.setting.now ≡ walk.setting.now) × (judge.around.now ≡ walk.around.now)
   pub shell : judge.signs.now.shell.now ≡ model.shell.now
   pub lets : judge.signs.now.lets.now ≡ before
   pub called : judge.signs.now.called.now ≡ []
   pub turned : judge.signs.now.turned.now ≡ []
+  pub below : judge.signs.now.below ≡ 0
   pub result : judge.signs.now.result ≡ head.result
   pub is_pure : judge.signs.now.is_pure ≡ true
   pub takes : head.given.now ≡ []
@@ -123,7 +126,7 @@ fails_seen (s ∷ ss) = has_names (names_in (s ∷ ss))
 
 -- the arm of a let over a value that has one type: it is lowered here, binds each name once, and a name where it can fail
 pub record ArmTaken (setting : Setting) (around : Around) (value : Core) (arm : Arm) (whole : Sized) : Type 0 where
-  pub lowered : arm_fits (size_for setting) (reads_at setting.reads.now) arm ≡ true
+  pub lowered : arm_fits (size_for setting) (crosses_for setting) (reads_at setting.reads.now) arm ≡ true
   pub differ : names_differ (names_in (steps_in arm)) ≡ true
   pub seen : fails_seen (steps_in arm) ≡ true
   pub ends : (name : Naming) → ends_with whole (fixed_end (node_for setting around name value).piece.ends) ≡ true
@@ -225,20 +228,28 @@ pub record FlatFrom (core : CoreModel) (sized : SizedCore) (m : Module) : Type 0
   pub is : ModelOf core sized table m model
   pub bare : Model
   pub bare_is : ModelOf core sized table m bare
-  -- what calls enter, and what calls of directions do
+  -- what calls enter, and what is entered where directions are asked, the functions of which stand in an order
   pub called : CalledAre core sized table.numbered model.called.now model.turned.now
-  pub entered : model.directions.now ≡ mapped_from core.types (2 * length sized.instances) core.directions model.turned.now
+  pub ordered : Ordered (calls_of core.directions) (made_in 0 model.turned.now) model.order.now
+  pub entered : model.directions.now ≡ mapped_from core.types model.order.now 0 core.directions
   pub in_ways : all_in_ways table.numbered sized.mappings 0 core.directions model.turned.now ≡ true
-  -- of instances, of directions, and of openings
+  -- of directions, of instances, and of openings
+  pub ways : List Made
+  pub directions : WaysMade model 0 model.order.now ways
+  pub before : model.before ≡ length ways
+  pub bare_before : bare.before ≡ length ways
   pub functions : List Made
   pub instances : InstancesMade model functions
-  pub ways : List Made
-  pub directions : WaysMade model 0 (2 * length sized.instances) core.directions model.turned.now ways
   pub opened : List Made
   pub of_registers : List (Option ℕ)
   pub openings : OpeningsMade bare 0 core.openings [] [] opened of_registers model.lets.now model.openings.now
-  pub all : m.functions ≡ functions ++ (ways ++ opened)
-  pub opens : m.openings ≡ opened_from (2 * length sized.instances + length ways) of_registers
+  pub all : m.functions ≡ ways ++ (functions ++ opened)
+  pub opens : m.openings ≡ opened_from (length ways + 2 * length sized.instances) of_registers
+
+-- so, with how many functions of directions stand before those of its instances
+pub record FlatBehind (core : CoreModel) (sized : SizedCore) (m : Module) (before : ℕ) : Type 0 where
+  pub from : FlatFrom core sized m
+  pub many : before ≡ length from.ways
 
 -- the module of a model as it is written, and sizes of its nodes: that of the model without mappings and with flat arms, where nodes have the same numbers
 pub record LoweredFrom (written : CoreModel) (sized : SizedCore) (m : Module) : Type 0 where
@@ -247,3 +258,8 @@ pub record LoweredFrom (written : CoreModel) (sized : SizedCore) (m : Module) : 
   -- nothing in it asks a direction for an option
   pub resolved : model_in G.Resolved written ≡ true
   pub flat : FlatFrom (with_flat_arms (without_mappings written)) sized m
+
+-- so, with how many functions of directions stand before those of its instances
+pub record LoweredBehind (written : CoreModel) (sized : SizedCore) (m : Module) (before : ℕ) : Type 0 where
+  pub from : LoweredFrom written sized m
+  pub many : before ≡ length from.flat.ways

@@ -34,7 +34,7 @@ pub record PureAround (model : Model) (opened : Opened) (around : Around) : Type
   pub instances : around.instances.now ≡ model.sized.now.instances
   pub given : around.given.now ≡ []
   pub openings : around.openings.now ≡ opened.names
-  pub directions : around.directions.now ≡ []
+  pub before : around.before ≡ model.before
 
 -- and its types: it is pure, and its result has this type
 pub record PureSigns (model : Model) (opened : Opened) (typ : ℕ) (signs : Signs) : Type 0 where
@@ -42,6 +42,7 @@ pub record PureSigns (model : Model) (opened : Opened) (typ : ℕ) (signs : Sign
   pub lets : signs.lets.now ≡ opened.types
   pub called : signs.called.now ≡ []
   pub turned : signs.turned.now ≡ []
+  pub below : signs.below ≡ 0
   pub result_is : signs.result ≡ typ
   pub is_pure : signs.is_pure ≡ true
 

@@ -8,11 +8,12 @@ use Rattle.lowered_tables.specs.declared.tables.Table.{Table}
 use Rattle.jib_lower.specs.declared.instances.Model.{Model}
 use Rattle.jib_lower.specs.declared.lowering.Parts.{Parts}
 use Rattle.jib_lower.specs.declared.openings.Opened.{Opened}
-use Rattle.jib_lower.specs.Crossings.{made_many}
+use Rattle.jib_lower.specs.Crossings.{calls_of}
 use Rattle.jib_lower.specs.Directions.{FunctionsMade}
 use Rattle.jib_lower.specs.Entering.{mapped_from}
 use Rattle.jib_lower.specs.Instances.{CalledAre}
 use Rattle.jib_lower.specs.Lowered.{OpenedFrom}
+use Rattle.jib_lower.specs.Order.{Ordered, made_in}
 use Rattle.jib_lower.specs.Tabled.{ShellOf, TableOf}
 use Rattle.jib_lower.specs.Types.{exception_typ}
 
@@ -25,9 +26,10 @@ pub record PartsOf (core : CoreModel) (sized : SizedCore) (parts : Parts) : Type
   pub nothing : parts.nothing ≡ S.Unit
   pub truths : parts.truths ≡ S.Bool
   pub called : CalledAre core sized table.numbered parts.called parts.turned
-  pub before : parts.before ≡ 2 * length sized.instances
-  pub entered : parts.directions ≡ mapped_from core.types parts.before core.directions parts.turned
-  pub opened_at : parts.opened_at ≡ parts.before + made_many parts.turned
+  pub ordered : Ordered (calls_of core.directions) (made_in 0 parts.turned) parts.order
+  pub entered : parts.directions ≡ mapped_from core.types parts.order 0 core.directions
+  pub before : parts.before ≡ length parts.order
+  pub opened_at : parts.opened_at ≡ parts.before + 2 * length sized.instances
 
 -- a model of these parts
 pub record ModelBy (core : CoreModel) (sized : SizedCore) (parts : Parts) (model : Model) : Type 0 where
@@ -41,17 +43,19 @@ pub record ModelBy (core : CoreModel) (sized : SizedCore) (parts : Parts) (model
   pub called : model.called.now ≡ parts.called
   pub directions : model.directions.now ≡ parts.directions
   pub turned : model.turned.now ≡ parts.turned
+  pub order : model.order.now ≡ parts.order
+  pub before : model.before ≡ parts.before
 
--- what is made of its openings, behind the functions of its instances and of directions
+-- what is made of its openings, behind the functions of directions and of its instances
 pub record OpenedOf (core : CoreModel) (sized : SizedCore) (parts : Parts) (opened : Opened) : Type 0 where
   pub bare : Model
   pub is : ModelBy core sized parts bare
   pub made : OpenedFrom bare parts.opened_at opened
 
--- what is made of its instances and of directions, which may read these openings
+-- what is made of directions and of its instances, which may read these openings
 pub record FunctionsOf (core : CoreModel) (sized : SizedCore) (parts : Parts) (opened : Opened) (functions : List Made) : Type 0 where
   pub model : Model
   pub is : ModelBy core sized parts model
   pub lets : model.lets.now ≡ opened.types
   pub names : model.openings.now ≡ opened.names
-  pub made : FunctionsMade model parts.before functions
+  pub made : FunctionsMade model functions

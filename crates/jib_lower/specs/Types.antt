@@ -14,7 +14,7 @@ use Rattle.sized_nodes.specs.declared.trees.SizedInstance.{SizedInstance}
 use Rattle.sized_nodes.specs.declared.trees.SizedCore.{SizedCore}
 use Rattle.sail_core.specs.declared.model.CoreModel.{CoreModel}
 use Rattle.sail_core.specs.declared.model.Direction.{Direction}
-use Rattle.lowered_ends.specs.declared.around.Mapped.{Mapped}
+use Rattle.lowered_steps.specs.declared.setting.Mapped.{Mapped}
 use Rattle.checked_meaning.specs.Items.{fixed_typ}
 use Rattle.lowered_types.specs.Table.{all_known, is_known}
 use Rattle.lowered_pieces.specs.Arms.{word_width}

@@ -1,91 +1,148 @@
-//! Which directions of mappings are called, and to which their calls lead.
+//! Which directions of mappings are asked, by calls and by patterns, and to which these lead.
 ghost use Rattle.std.specs.Prelude.{◌≡◌, ◌++◌, map, slice_get, IfOk, OnOk};
 ghost use Rattle.lowered_pieces.specs.Functions.{measure_of};
 ghost use Rattle.jib_lower.specs.Crossings as spec;
 
 use crate::instances::following;
+use lowered_ends::arm_steps;
 use lowered_functions::active_measure;
 use sail_base::Items;
-use sail_core::{Callee, Core, CoreModel, Direction, Function, Kind};
+use sail_core::{Arm, Callee, Core, CoreModel, Direction, Function, Kind, Statement, Step};
 use sized_nodes::SizedInstance;
 use std::alloc::{AllocError, Global};
 
-// ---- the directions that are called
+// ---- the directions that are asked
 
 /// A direction comes behind others, where it is what is called. It fails where memory is wanting.
-fn push_callee(callee: &Callee, called: &mut Items<u32>) -> Result<(), AllocError>
-    ensures { OnOk result (called.new ≡ called.old ++ spec.called_as callee.now) }
+fn push_callee(callee: &Callee, asked: &mut Items<u32>) -> Result<(), AllocError>
+    ensures { OnOk result (asked.new ≡ asked.old ++ spec.called_as callee.now) }
 {
     match callee {
-        Callee::Applies(direction) => called.push(*direction),
+        Callee::Applies(direction) => asked.push(*direction),
         _ => Ok(()),
     }
 }
 
-/// The direction that a node calls comes behind others, where it calls one. It fails where memory is wanting.
-fn push_called(kind: &Kind, called: &mut Items<u32>) -> Result<(), AllocError>
-    ensures { OnOk result (called.new ≡ called.old ++ spec.called_here kind.now) }
+/// So does the direction that a step of a pattern asks.
+fn push_step(step: &Step, asked: &mut Items<u32>) -> Result<(), AllocError>
+    ensures { OnOk result (asked.new ≡ asked.old ++ spec.seen_as step.now) }
+{
+    match step {
+        Step::Sees(_, direction) => asked.push(*direction),
+        _ => Ok(()),
+    }
+}
+
+/// So do those that steps ask.
+fn push_steps(steps: &[Step], asked: &mut Items<u32>) -> Result<(), AllocError>
+    ensures { OnOk result (asked.new ≡ asked.old ++ spec.seen_in steps.now) }
+{
+    for step in steps {
+        push_step(step, asked)?;
+    }
+    Ok(())
+}
+
+/// So do those that the patterns of arms ask.
+fn push_arms(arms: &[Arm], asked: &mut Items<u32>) -> Result<(), AllocError>
+    ensures { OnOk result (asked.new ≡ asked.old ++ spec.seen_by arms.now) }
+{
+    for arm in arms {
+        let steps = arm_steps(arm);
+        push_steps(steps, asked)?;
+    }
+    Ok(())
+}
+
+/// So do those that the pattern of a statement asks.
+fn push_statement(statement: &Statement, asked: &mut Items<u32>) -> Result<(), AllocError>
+    ensures { OnOk result (asked.new ≡ asked.old ++ spec.stated_as statement.now) }
+{
+    match statement {
+        Statement::Define(_, arm) => push_steps(arm_steps(arm), asked),
+        _ => Ok(()),
+    }
+}
+
+/// So do those that the patterns of statements ask.
+fn push_statements(statements: &[Statement], asked: &mut Items<u32>) -> Result<(), AllocError>
+    ensures { OnOk result (asked.new ≡ asked.old ++ spec.stated_in statements.now) }
+{
+    for statement in statements {
+        push_statement(statement, asked)?;
+    }
+    Ok(())
+}
+
+/// The directions that a node itself asks come behind others. They fail where memory is wanting.
+fn push_asked(kind: &Kind, asked: &mut Items<u32>) -> Result<(), AllocError>
+    ensures { OnOk result (asked.new ≡ asked.old ++ spec.asked_here kind.now) }
 {
     match kind {
-        Kind::Call(callee) => push_callee(callee, called),
+        Kind::Call(callee) => push_callee(callee, asked),
+        Kind::Let(arm) => push_steps(arm_steps(arm), asked),
+        Kind::Match(arms, _) => push_arms(arms.as_slice(), asked),
+        Kind::Try(arms, _) => push_arms(arms.as_slice(), asked),
+        Kind::Clauses(arms) => push_arms(arms.as_slice(), asked),
+        Kind::Block(statements) => push_statements(statements.as_slice(), asked),
         _ => Ok(()),
     }
 }
 
-/// The directions that a tree calls come behind others. They fail where memory is wanting.
-#[cycle(list_called)]
-fn list_called(tree: &Core, called: &mut Items<u32>) -> Result<(), AllocError>
-    ensures { OnOk result (called.new ≡ called.old ++ spec.called_in tree.now) }
+/// The directions that a tree asks come behind others. They fail where memory is wanting.
+#[cycle(list_asked)]
+fn list_asked(tree: &Core, asked: &mut Items<u32>) -> Result<(), AllocError>
+    ensures { OnOk result (asked.new ≡ asked.old ++ spec.asked_in tree.now) }
 {
-    push_called(&tree.kind, called)?;
+    push_asked(&tree.kind, asked)?;
     let parts = tree.parts.as_slice();
-    list_all_called(parts, called)
+    list_all_asked(parts, asked)
 }
 
 /// So those of several trees.
-#[cycle(list_called)]
-fn list_all_called(trees: &[Core], called: &mut Items<u32>) -> Result<(), AllocError>
-    ensures { OnOk result (called.new ≡ called.old ++ spec.joined (map spec.called_in trees.now)) }
+#[cycle(list_asked)]
+fn list_all_asked(trees: &[Core], asked: &mut Items<u32>) -> Result<(), AllocError>
+    ensures { OnOk result (asked.new ≡ asked.old ++ spec.joined (map spec.asked_in trees.now)) }
 {
     match trees {
         [] => Ok(()),
         [first, rest @ ..] => {
-            list_called(first, called)?;
-            list_all_called(rest, called)
+            list_asked(first, asked)?;
+            list_all_asked(rest, asked)
         }
     }
 }
 
 /// So those of the measure of a function that is in a cycle.
-fn list_measure(function: &Function, called: &mut Items<u32>) -> Result<(), AllocError>
-    ensures { OnOk result (called.new ≡ called.old ++ spec.called_if (measure_of function.now.cycle function.now.measure)) }
+fn list_measure(function: &Function, asked: &mut Items<u32>) -> Result<(), AllocError>
+    ensures { OnOk result (asked.new ≡ asked.old ++ spec.asked_if (measure_of function.now.cycle function.now.measure)) }
 {
     match active_measure(function) {
-        Some(measure) => list_called(measure, called),
+        Some(measure) => list_asked(measure, asked),
         None => Ok(()),
     }
 }
 
-/// The directions that a function calls, its measure with it. They fail where memory is wanting.
-fn called_by(alloc: Global, function: &Function) -> Result<Items<u32>, AllocError>
-    ensures { IfOk result (λ called. called ≡ spec.called_by function.now) }
+/// The directions that a function asks, its measure with it. They fail where memory is wanting.
+fn asked_by(alloc: Global, function: &Function) -> Result<Items<u32>, AllocError>
+    ensures { IfOk result (λ asked. asked ≡ spec.asked_by function.now) }
 {
-    let mut called = Items::new(alloc);
-    list_called(&function.body, &mut called)?;
-    list_measure(function, &mut called)?;
-    Ok(called)
+    let mut asked = Items::new(alloc);
+    list_asked(&function.body, &mut asked)?;
+    list_measure(function, &mut asked)?;
+    Ok(asked)
 }
 
-/// The directions that a direction calls. They fail where memory is wanting.
-fn called_in(alloc: Global, direction: &Direction) -> Result<Items<u32>, AllocError>
-    ensures { IfOk result (λ called. called ≡ spec.called_in direction.now.body) }
+/// The directions that a direction asks. They fail where memory is wanting.
+fn asked_in(alloc: Global, direction: &Direction) -> Result<Items<u32>, AllocError>
+    ensures { IfOk result (λ asked. asked ≡ spec.asked_in direction.now.body) }
 {
-    let mut called = Items::new(alloc);
-    list_called(&direction.body, &mut called)?;
-    Ok(called)
+    let mut asked = Items::new(alloc);
+    list_asked(&direction.body, &mut asked)?;
+    Ok(asked)
 }
 
-/// What directions call comes behind the same of others. It fails where memory is wanting.
+/// What directions ask comes behind the same of others. It fails where memory is wanting.
 fn push_calls(
     alloc: Global,
     directions: &[Direction],
@@ -93,17 +150,14 @@ fn push_calls(
 ) -> Result<(), AllocError>
     ensures { OnOk result (calls.new ≡ calls.old ++ spec.calls_of directions.now) }
 {
-    match directions {
-        [] => Ok(()),
-        [first, rest @ ..] => {
-            let called = called_in(alloc, first)?;
-            calls.push(called)?;
-            push_calls(alloc, rest, calls)
-        }
+    for direction in directions {
+        let asked = asked_in(alloc, direction)?;
+        calls.push(asked)?;
     }
+    Ok(())
 }
 
-/// What each of a model's directions calls. It fails where memory is wanting.
+/// What each of a model's directions asks. It fails where memory is wanting.
 pub fn calls_of(alloc: Global, core: &CoreModel) -> Result<Items<Items<u32>>, AllocError>
     ensures { IfOk result (λ calls. calls ≡ spec.calls_of core.now.directions) }
 {
@@ -113,7 +167,7 @@ pub fn calls_of(alloc: Global, core: &CoreModel) -> Result<Items<Items<u32>>, Al
     Ok(calls)
 }
 
-// ---- and those that their calls lead to
+// ---- and those that these lead to
 
 /// Whether a direction is one of these.
 pub fn is_in(direction: u32, seen: &[u32]) -> bool
@@ -137,13 +191,10 @@ fn add_one(direction: u32, seen: &mut Items<u32>) -> Result<(), AllocError>
 fn add_all(directions: &[u32], seen: &mut Items<u32>) -> Result<(), AllocError>
     ensures { OnOk result (seen.new ≡ spec.with_all directions.now seen.old) }
 {
-    match directions {
-        [] => Ok(()),
-        [first, rest @ ..] => {
-            add_one(*first, seen)?;
-            add_all(rest, seen)
-        }
+    for direction in directions {
+        add_one(*direction, seen)?;
     }
+    Ok(())
 }
 
 /// So those of a list at a place, where there is one.
@@ -156,7 +207,7 @@ fn add_list(lists: &[Items<u32>], at: u32, seen: &mut Items<u32>) -> Result<(), 
     }
 }
 
-/// So those that these call.
+/// So those that these ask.
 fn add_behind(
     calls: &[Items<u32>],
     directions: &[u32],
@@ -164,13 +215,10 @@ fn add_behind(
 ) -> Result<(), AllocError>
     ensures { OnOk result (seen.new ≡ spec.with_behind calls.now directions.now seen.old) }
 {
-    match directions {
-        [] => Ok(()),
-        [first, rest @ ..] => {
-            add_list(calls, *first, seen)?;
-            add_behind(calls, rest, seen)
-        }
+    for direction in directions {
+        add_list(calls, *direction, seen)?;
     }
+    Ok(())
 }
 
 /// These directions once more. They fail where memory is wanting.
@@ -184,7 +232,7 @@ fn copy_all(alloc: Global, directions: &[u32]) -> Result<Items<u32>, AllocError>
     Ok(copy)
 }
 
-/// These directions, and behind them those that they call, each once. They fail where memory is wanting.
+/// These directions, and behind them those that they ask, each once. They fail where memory is wanting.
 fn step(alloc: Global, calls: &[Items<u32>], seen: &[u32]) -> Result<Items<u32>, AllocError>
     ensures { IfOk result (λ next. next ≡ spec.with_behind calls.now seen.now seen.now) }
 {
@@ -235,10 +283,10 @@ fn turn_of(
     calls: &[Items<u32>],
     function: &Function,
 ) -> Result<Items<u32>, AllocError>
-    ensures { IfOk result (λ all. all ≡ spec.leads_from calls.now (spec.called_by function.now)) }
+    ensures { IfOk result (λ all. all ≡ spec.leads_from calls.now (spec.asked_by function.now)) }
 {
-    let called = called_by(alloc, function)?;
-    leads_from(alloc, calls, called.as_slice())
+    let asked = asked_by(alloc, function)?;
+    leads_from(alloc, calls, asked.as_slice())
 }
 
 /// So those of several functions come behind those of others.
@@ -250,14 +298,11 @@ fn push_turns(
 ) -> Result<(), AllocError>
     ensures { OnOk result (turns.new ≡ turns.old ++ spec.turns_by calls.now functions.now) }
 {
-    match functions {
-        [] => Ok(()),
-        [first, rest @ ..] => {
-            let turn = turn_of(alloc, calls, first)?;
-            turns.push(turn)?;
-            push_turns(alloc, calls, rest, turns)
-        }
+    for function in functions {
+        let turn = turn_of(alloc, calls, function)?;
+        turns.push(turn)?;
     }
+    Ok(())
 }
 
 /// The directions to which the calls of a model's functions lead, by functions. They fail where memory is wanting.
@@ -280,11 +325,8 @@ pub fn add_wanted(
 ) -> Result<(), AllocError>
     ensures { OnOk result (seen.new ≡ spec.wanted_by turns.now instances.now seen.old) }
 {
-    match instances {
-        [] => Ok(()),
-        [first, rest @ ..] => {
-            add_list(turns, first.instance.function, seen)?;
-            add_wanted(turns, rest, seen)
-        }
+    for found in instances {
+        add_list(turns, found.instance.function, seen)?;
     }
+    Ok(())
 }

@@ -1,5 +1,5 @@
-//! The functions of directions of mappings, which give options: calls of them take a tick.
-ghost use Rattle.std.specs.Prelude.{◌≡◌, ◌∷◌, [], true, IfErr, IfOk, IsFalse, IsTrue, OnOk};
+//! The functions of directions of mappings, which give options.
+ghost use Rattle.std.specs.Prelude.{◌≡◌, ◌∷◌, [], None, Some, true, IfErr, IfOk, IsFalse, IsTrue, OnOk, slice_get};
 ghost use Rattle.lowered_pieces.specs.Mapped.{ends_with as ends_with_of, fixed_end};
 ghost use Rattle.lowered_pieces.specs.Places.{Naming};
 ghost use Rattle.lowered_ends.specs.Around.{node_for};
@@ -10,22 +10,22 @@ ghost use Rattle.jib_lower.specs.Directions as spec;
 ghost use Rattle.jib_lower.specs.Entering.{mapped_by as spec_mapped};
 ghost use Rattle.jib_lower.specs.Errors.{OrMemory};
 ghost use Rattle.jib_lower.specs.Functions.{walk_by};
-ghost use Rattle.jib_lower.specs.Left.{NoBody, WayByLeft, WayCodeLeft, WayFunctionLeft, WayLeft, WaysLeft};
+ghost use Rattle.jib_lower.specs.Left.{NoBody, NoCycle, WayAtLeft, WayByLeft, WayCodeLeft, WayFunctionLeft, WayLeft, WaysLeft};
 
 use crate::entering::mapped_by;
 use crate::error::LowerError;
 use crate::functions::{Head, with_code};
-use crate::instances::{Model, following, number_of, setting_of};
+use crate::instances::{Model, number_of, setting_of};
 use crate::leads::{are_alone, both};
 use crate::reads::tree_reads;
 use crate::turned::directions_stay;
 use jib::Function as Made;
-use lowered_ends::{Around, Mapped, ends_with, is_lowered, node_ends};
+use lowered_ends::{Around, ends_with, is_lowered, node_ends};
 use lowered_functions::{Walk, put_mapping};
-use lowered_steps::{Setting, as_number, find, further, is_never};
+use lowered_steps::{Mapped, Setting, as_number, find, further, is_never};
 use lowered_typed::{Judge, Signs, is_typed};
 use sail_base::Items;
-use sail_core::{Core, Direction, Kind};
+use sail_core::{Core, CoreModel, Direction, Kind};
 use sail_types::Typ;
 use size_values::Sized;
 use sized_nodes::NodeSizes;
@@ -84,7 +84,7 @@ fn way_code(
         (WayCodeLeft walk.now judge.now head.now direction.now body.now.typ.now body.now.clauses.now payload.now)) }
 {
     let place = direction.place;
-    let coding = put_mapping(&*walk, place, body.typ, body.clauses, head.given, true)?;
+    let coding = put_mapping(&*walk, place, body.typ, body.clauses, head.given)?;
     with_code(walk.alloc, walk.setting, head, place, coding)
 }
 
@@ -150,7 +150,7 @@ fn is_known(numbered: &[Sized], typ: &Sized) -> bool
     if never { true } else { place < numbered.len() }
 }
 
-/// Whether the types of what calls of a direction enter have numbers.
+/// Whether the types of what is entered where a direction is asked have numbers.
 fn are_known(numbered: &[Sized], mapped: &Mapped) -> bool
     ensures { result ≡ spec.types_known numbered.now mapped.now }
 {
@@ -161,7 +161,7 @@ fn are_known(numbered: &[Sized], mapped: &Mapped) -> bool
     both(takes, option)
 }
 
-/// The function of a direction, by its body, by what calls of it enter and by the nodes of its mapping, where calls of it have this number of a cycle. It
+/// The function of a direction, by its body, by what is entered where it is asked and by the nodes of its mapping, where it has this number of a cycle. It
 /// fails where it isn't lowered here or doesn't fit, and where memory is wanting.
 fn way_function<'x>(
     alloc: Global,
@@ -181,14 +181,18 @@ fn way_function<'x>(
     let result = number_of(model.numbered, &mapped.gives)?;
     let lets = as_number(model.lets.len())?;
     let reads = told.as_slice();
-    let setting = Setting { reads, ..plain };
+    let setting = Setting {
+        reads,
+        directions: model.directions,
+        ..plain
+    };
     let instances = model.sized.instances.as_slice();
     let given = std::slice::from_ref(&mapped.takes);
     let around = Around {
         instances,
         given,
         openings: model.openings,
-        directions: model.directions,
+        before: model.before,
     };
     let signs = Signs {
         shell: model.shell,
@@ -198,6 +202,7 @@ fn way_function<'x>(
         cycle,
         called: model.called,
         turned: model.turned,
+        below: mapped.function,
     };
     let judge = Judge {
         alloc,
@@ -215,8 +220,8 @@ fn way_function<'x>(
     make_judged(&judge, &head, direction, body, &mapped.payload)
 }
 
-/// The function of a direction by what calls of it enter and by the nodes of its mapping, where calls of it have this number of a cycle. It fails where it has
-/// no body of a function, where that isn't lowered here or doesn't fit, and where memory is wanting.
+/// The function of a direction, which has this number, by the nodes of its mapping, where it has this number of a cycle. It fails where it has no body of a
+/// function, where that isn't lowered here or doesn't fit, and where memory is wanting.
 fn way_by<'x>(
     alloc: Global,
     model: &'x Model<'x>,
@@ -241,12 +246,12 @@ fn way_by<'x>(
     }
 }
 
-/// The function of the direction at a place, which has this number, where calls of it have this number of a cycle. It fails where something returns in a
-/// direction, where calls of it are not told apart by the numbers of their nodes, where it isn't lowered here or doesn't fit, and where memory is wanting.
+/// The function of the direction at a place, which has this number, where it has this number of a cycle. It fails where something returns in a direction,
+/// where calls of it are not told apart by the numbers of their nodes, where it isn't lowered here or doesn't fit, and where memory is wanting.
 fn make_way<'x>(
     alloc: Global,
     model: &'x Model<'x>,
-    at: usize,
+    at: u32,
     number: u32,
     direction: &Direction,
     cycle: u32,
@@ -257,7 +262,7 @@ fn make_way<'x>(
     ensures made { IfOk result (λ made. spec.WayMade model.now at number cycle direction.now made) }
     ensures left { IfErr result (OrMemory (WayLeft model.now at number cycle direction.now)) }
 {
-    match model.sized.mappings.get(at / 2) {
+    match model.sized.mappings.get((at / 2) as usize) {
         Some(nodes) => {
             let alone = are_alone(std::slice::from_ref(nodes));
             if stay {
@@ -274,75 +279,80 @@ fn make_way<'x>(
     }
 }
 
-/// Nothing is made where there are no more directions. It fails where numbers of cycles are said of more.
-fn ended(turned: &[Option<u32>]) -> Result<(), LowerError>
-    ensures none { OnOk result (turned.now ≡ []) }
-    ensures left { IfErr result (OrMemory (turned.now ≡ [] → ⊥)) }
+/// The direction at a place. It fails where there is none.
+fn direction_of(core: &CoreModel, at: u32) -> Result<&Direction, LowerError>
+    ensures found { IfOk result (λ direction. slice_get core.now.directions at ≡ Some direction.now) }
+    ensures left { IfErr result (OrMemory (slice_get core.now.directions at ≡ None)) }
 {
-    match turned {
-        [] => Ok(()),
-        [_, ..] => Err(LowerError::NotThere),
+    match core.directions.get(at as usize) {
+        Some(direction) => Ok(direction),
+        None => Err(LowerError::NotThere),
     }
 }
 
-/// The functions of directions from one on that are made come behind others, the first of which has this number. They fail where one isn't made.
+/// Its number of a cycle. It fails where it has none.
+fn cycle_of(turned: &[Option<u32>], at: u32) -> Result<u32, LowerError>
+    ensures found { IfOk result (λ cycle. slice_get turned.now at ≡ Some (Some cycle)) }
+    ensures left { IfErr result (OrMemory (NoCycle turned.now at)) }
+{
+    match turned.get(at as usize) {
+        Some(own) => match own {
+            Some(cycle) => Ok(*cycle),
+            None => Err(LowerError::NotThere),
+        },
+        None => Err(LowerError::NotThere),
+    }
+}
+
+/// The function of the direction at a place, which has this number. It fails where it isn't made.
+fn way_at<'x>(
+    alloc: Global,
+    model: &'x Model<'x>,
+    at: u32,
+    number: u32,
+    stay: bool,
+) -> Result<Made, LowerError>
+    requires is { IsTrue stay → AllStay model.now.core.now.directions }
+    requires no { IsFalse stay → AllStay model.now.core.now.directions → ⊥ }
+    ensures made { IfOk result (spec.WayAt model.now at number) }
+    ensures left { IfErr result (OrMemory (WayAtLeft model.now at number)) }
+{
+    let direction = direction_of(model.core, at)?;
+    let cycle = cycle_of(model.turned, at)?;
+    make_way(alloc, &*model, at, number, direction, cycle, stay)
+}
+
+/// The functions of these directions come behind others, the first of which has this number. They fail where one isn't made.
 fn push_ways<'x>(
     alloc: Global,
     model: &'x Model<'x>,
-    at: usize,
     number: u32,
-    directions: &[Direction],
-    turned: &[Option<u32>],
+    order: &[u32],
     stay: bool,
     ways: &mut Items<Made>,
 ) -> Result<(), LowerError>
     requires is { IsTrue stay → AllStay model.now.core.now.directions }
     requires no { IsFalse stay → AllStay model.now.core.now.directions → ⊥ }
-    ensures added { OnOk result (spec.WaysAdded model.now at number directions.now turned.now ways.old ways.new) }
-    ensures left { IfErr result (OrMemory (WaysLeft model.now at number directions.now turned.now)) }
+    ensures added { OnOk result (spec.WaysAdded model.now number order.now ways.old ways.new) }
+    ensures left { IfErr result (OrMemory (WaysLeft model.now number order.now)) }
 {
-    match directions {
-        [] => ended(turned),
-        [first, rest @ ..] => match turned {
-            [] => Err(LowerError::NotThere),
-            [cycle, others @ ..] => {
-                let next = following(at)?;
-                match cycle {
-                    Some(own) => {
-                        let way = make_way(alloc, &*model, at, number, first, *own, stay)?;
-                        ways.push(way)?;
-                        let behind = further(number, 1)?;
-                        push_ways(alloc, &*model, next, behind, rest, others, stay, ways)
-                    }
-                    None => push_ways(alloc, &*model, next, number, rest, others, stay, ways),
-                }
-            }
-        },
+    let mut place = number;
+    for direction in order {
+        let way = way_at(alloc, &*model, *direction, place, stay)?;
+        ways.push(way)?;
+        place = further(place, 1)?;
     }
+    Ok(())
 }
 
-/// The functions of all directions that are made, the first of which has this number. They fail where one isn't lowered here or doesn't fit, and where
-/// memory is wanting.
-pub fn make_ways<'x>(
-    alloc: Global,
-    model: &'x Model<'x>,
-    number: u32,
-) -> Result<Items<Made>, LowerError>
-    ensures made { IfOk result (λ ways. spec.WaysMade model.now 0 number model.now.core.now.directions model.now.turned.now ways) }
-    ensures left { IfErr result (OrMemory (WaysLeft model.now 0 number model.now.core.now.directions model.now.turned.now)) }
+/// The functions of all directions that are made, in their order. They fail where one isn't lowered here or doesn't fit, and where memory is wanting.
+pub fn make_ways<'x>(alloc: Global, model: &'x Model<'x>) -> Result<Items<Made>, LowerError>
+    ensures made { IfOk result (λ ways. spec.WaysMade model.now 0 model.now.order.now ways) }
+    ensures left { IfErr result (OrMemory (WaysLeft model.now 0 model.now.order.now)) }
 {
     let directions = model.core.directions.as_slice();
     let stay = directions_stay(directions);
     let mut ways = Items::new(alloc);
-    push_ways(
-        alloc,
-        &*model,
-        0,
-        number,
-        directions,
-        model.turned,
-        stay,
-        &mut ways,
-    )?;
+    push_ways(alloc, &*model, 0, model.order, stay, &mut ways)?;
     Ok(ways)
 }

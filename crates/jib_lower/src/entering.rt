@@ -1,9 +1,9 @@
-//! What calls of directions of mappings enter, which are functions that give options.
+//! What is entered where directions of mappings are asked, which are functions that give options.
 ghost use Rattle.std.specs.Prelude.{◌≡◌, ◌++◌, IfOk, OnOk};
 ghost use Rattle.jib_lower.specs.Entering as spec;
 
-use lowered_ends::{Mapped, fixed_type, option_of};
-use lowered_steps::further;
+use lowered_ends::{fixed_type, option_of};
+use lowered_steps::{Mapped, further};
 use sail_base::Items;
 use sail_core::{Direction, Kind};
 use sail_types::Types;
@@ -33,7 +33,7 @@ fn option_in(alloc: Global, types: &Types, kind: &Kind) -> Result<Sized, AllocEr
     }
 }
 
-/// What calls of a direction enter that is the function of this number. It fails where memory is wanting.
+/// What is entered where a direction is asked that is the function of this number. It fails where memory is wanting.
 pub fn mapped_by(
     alloc: Global,
     types: &Types,
@@ -53,48 +53,54 @@ pub fn mapped_by(
     })
 }
 
-/// What calls of directions enter comes behind others, where the first that has a number of a cycle is the function of this number. It fails where memory is
-/// wanting.
-fn push_mapped(
-    alloc: Global,
-    types: &Types,
-    function: u32,
-    directions: &[Direction],
-    turned: &[Option<u32>],
-    all: &mut Items<Mapped>,
-) -> Result<(), AllocError>
-    ensures { OnOk result (all.new ≡ all.old ++ spec.mapped_from types.now function directions.now turned.now) }
+/// Where a direction stands among these; behind all where it is none of them. It fails where there are 2^32 or more.
+fn place_in(order: &[u32], direction: u32) -> Result<u32, AllocError>
+    ensures { IfOk result (λ place. place ≡ spec.place_in order.now direction) }
 {
-    match directions {
-        [] => Ok(()),
+    match order {
+        [] => Ok(0),
         [first, rest @ ..] => {
-            let one = mapped_by(alloc, types, function, first)?;
-            all.push(one)?;
-            match turned {
-                [] => push_mapped(alloc, types, function, rest, &[], all),
-                [cycle, others @ ..] => match cycle {
-                    Some(_) => {
-                        let next = further(function, 1)?;
-                        push_mapped(alloc, types, next, rest, others, all)
-                    }
-                    None => push_mapped(alloc, types, function, rest, others, all),
-                },
+            if direction == *first {
+                Ok(0)
+            } else {
+                let behind = place_in(rest, direction)?;
+                further(behind, 1)
             }
         }
     }
 }
 
-/// What calls of directions enter, where the first that has a number of a cycle is the function of this number. It fails where memory is wanting.
+/// What is entered where directions from one on are asked comes behind others, where their functions stand in this order. It fails where memory is wanting.
+fn push_mapped(
+    alloc: Global,
+    types: &Types,
+    order: &[u32],
+    from: u32,
+    directions: &[Direction],
+    all: &mut Items<Mapped>,
+) -> Result<(), AllocError>
+    ensures { OnOk result (all.new ≡ all.old ++ spec.mapped_from types.now order.now from directions.now) }
+{
+    let mut place = from;
+    for direction in directions {
+        let function = place_in(order, place)?;
+        let one = mapped_by(alloc, types, function, direction)?;
+        all.push(one)?;
+        place = further(place, 1)?;
+    }
+    Ok(())
+}
+
+/// What is entered where directions are asked, the functions of which stand in this order. It fails where memory is wanting.
 pub fn all_mapped(
     alloc: Global,
     types: &Types,
-    function: u32,
+    order: &[u32],
     directions: &[Direction],
-    turned: &[Option<u32>],
 ) -> Result<Items<Mapped>, AllocError>
-    ensures { IfOk result (λ all. all ≡ spec.mapped_from types.now function directions.now turned.now) }
+    ensures { IfOk result (λ all. all ≡ spec.mapped_from types.now order.now 0 directions.now) }
 {
     let mut all = Items::new(alloc);
-    push_mapped(alloc, types, function, directions, turned, &mut all)?;
+    push_mapped(alloc, types, order, 0, directions, &mut all)?;
     Ok(all)
 }

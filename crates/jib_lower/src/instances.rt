@@ -15,8 +15,8 @@ use crate::functions::{Both, Head, make_judged};
 use crate::plain::{are_plain_told, is_plain_told, told_type, told_types};
 use crate::reads::function_reads;
 use jib::{Function as Made, Module};
-use lowered_ends::{Around, Mapped};
-use lowered_steps::{Setting, as_number, find};
+use lowered_ends::Around;
+use lowered_steps::{Mapped, Setting, as_number, find};
 use lowered_typed::{Called, Judge, Signs};
 use sail_base::{Items, Place};
 use sail_core::{CoreModel, Function};
@@ -43,10 +43,14 @@ pub struct Model<'a> {
     pub truths: &'a Sized,
     /// What calls enter, by the places of instances.
     pub called: &'a [Called],
-    /// What calls of directions of mappings enter.
+    /// What is entered where directions of mappings are asked.
     pub directions: &'a [Mapped],
     /// The numbers of the cycles of directions, where they are made.
     pub turned: &'a [Option<u32>],
+    /// The directions that are made, in the order of their functions, which stand before all others.
+    pub order: &'a [u32],
+    /// How many these are.
+    pub before: u32,
     /// The types of the openings that functions may read.
     pub lets: &'a [u32],
     /// For each name of a top-level let the opening that gives its value.
@@ -62,13 +66,13 @@ pub fn number_of(numbered: &[Sized], typ: &Sized) -> Result<u32, AllocError>
     Ok(number)
 }
 
-/// What the code of a function is made by, whose trees have these nodes and read no variables. It fails where there are 2^32 types or more.
+/// What the code of a function is made by, whose trees have these nodes, read no variables and ask no directions. It fails where there are 2^32 types or more.
 pub fn setting_of<'a>(
     model: &Model<'a>,
     bodies: &'a [Items<NodeSizes>],
     numbers: &'a [Option<i128>],
 ) -> Result<Setting<'a>, AllocError>
-    ensures { IfOk result (λ setting. SettingOf model.now bodies.now numbers.now [] setting) }
+    ensures { IfOk result (λ setting. SettingOf model.now bodies.now numbers.now [] [] setting) }
 {
     let unit = number_of(model.numbered, model.nothing)?;
     let truth = number_of(model.numbered, model.truths)?;
@@ -86,6 +90,7 @@ pub fn setting_of<'a>(
         bodies,
         numbers,
         reads: &[],
+        directions: &[],
     })
 }
 
@@ -126,15 +131,12 @@ fn push_told(
 ) -> Result<(), AllocError>
     ensures { OnOk result (numbers.new ≡ numbers.old ++ map (type_in numbered.now) (map told_as told.now)) }
 {
-    match told {
-        [] => Ok(()),
-        [first, rest @ ..] => {
-            let typ = told_type(alloc, first)?;
-            let number = number_of(numbered, &typ)?;
-            numbers.push(number)?;
-            push_told(alloc, numbered, rest, numbers)
-        }
+    for one in told {
+        let typ = told_type(alloc, one)?;
+        let number = number_of(numbered, &typ)?;
+        numbers.push(number)?;
     }
+    Ok(())
 }
 
 /// What calls of an instance enter, the function of which has this number of its cycle. It fails where its signature is not plain, and where memory is
@@ -169,15 +171,12 @@ fn push_called(
     ensures added { OnOk result (added.CalledAdded numbered.now cycles.now instances.now called.old called.new) }
     ensures left { IfErr result (OrMemory (SomeEntryLeft core.now instances.now)) }
 {
-    match instances {
-        [] => Ok(()),
-        [first, rest @ ..] => {
-            let cycle = number_at(cycles, first.instance.function);
-            let one = called_of(alloc, core, numbered, first, cycle)?;
-            called.push(one)?;
-            push_called(alloc, core, numbered, cycles, rest, called)
-        }
+    for found in instances {
+        let cycle = number_at(cycles, found.instance.function);
+        let one = called_of(alloc, core, numbered, found, cycle)?;
+        called.push(one)?;
     }
+    Ok(())
 }
 
 /// What calls enter, by the places of instances, where functions and directions have these numbers of cycles. It fails where a signature is not plain, and
@@ -227,6 +226,7 @@ fn make_instance<'x>(
     let listed = reads.as_slice();
     let setting = Setting {
         reads: listed,
+        directions: model.directions,
         ..plain
     };
     let instances = model.sized.instances.as_slice();
@@ -234,7 +234,7 @@ fn make_instance<'x>(
         instances,
         given,
         openings: model.openings,
-        directions: model.directions,
+        before: model.before,
     };
     let signs = Signs {
         shell: model.shell,
@@ -244,6 +244,7 @@ fn make_instance<'x>(
         cycle,
         called: model.called,
         turned: model.turned,
+        below: model.before,
     };
     let judge = Judge {
         alloc,
@@ -299,16 +300,14 @@ fn push_instances(
     ensures added { OnOk result (added.InstancesAdded model.now at instances.now functions.old functions.new) }
     ensures left { IfErr result (OrMemory (InstancesLeft model.now at instances.now)) }
 {
-    match instances {
-        [] => Ok(()),
-        [first, rest @ ..] => {
-            let both = make_at(alloc, model, at, first)?;
-            functions.push(both.called)?;
-            functions.push(both.event)?;
-            let next = following(at)?;
-            push_instances(alloc, model, next, rest, functions)
-        }
+    let mut place = at;
+    for found in instances {
+        let both = make_at(alloc, model, place, found)?;
+        functions.push(both.called)?;
+        functions.push(both.event)?;
+        place = following(place)?;
     }
+    Ok(())
 }
 
 /// The functions of all instances: of each the one that calls enter, and behind it the one that events enter. It fails where a tree isn't lowered here

@@ -1,8 +1,8 @@
 //! Lowering: the module of flat code of a model with constant sizes.
 //!
-//! `specs/Lowered` tells what is made of a model, once it has no mappings and its arms are flat: of the i-th instance the function 2i, which calls enter, and
-//! the function 2i + 1, which events enter; behind them the functions of directions that are called, and those of top-level lets and initial values; each with the code of the definition (`lowered_pieces`)
-//! under the numbering of its own slots.
+//! `specs/Lowered` tells what is made of a model, once it has no mappings and its arms are flat: the functions of directions that are asked, in an order;
+//! behind them of the i-th instance the function 2i, which calls enter, and the function 2i + 1, which events enter; and those of top-level lets and initial
+//! values; each with the code of the definition (`lowered_pieces`) under the numbering of its own slots.
 #![tactic(auto)]
 
 mod crossings;
@@ -17,6 +17,7 @@ mod laws;
 mod leads;
 mod lowering;
 mod openings;
+mod order;
 mod plain;
 mod reads;
 mod turned;

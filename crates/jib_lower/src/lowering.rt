@@ -1,8 +1,8 @@
 //! The module of a model.
-ghost use Rattle.std.specs.Prelude.{◌≡◌, ◌*◌, ◌++◌, Some, length, map, false, true, IfErr, IfOk, OnOk};
+ghost use Rattle.std.specs.Prelude.{◌≡◌, ◌*◌, ◌++◌, Some, length, map, false, IfErr, IfOk, OnOk};
 ghost use Rattle.mappings.specs.Rewriting.{without_mappings};
 ghost use Rattle.match_rewrite.specs.Rewriting.{with_flat_arms};
-ghost use Rattle.jib_lower.specs.Crossings.{turned_by as spec_turned, turns_of};
+ghost use Rattle.jib_lower.specs.Crossings.{calls_of, turned_by as spec_turned, turns_of};
 ghost use Rattle.jib_lower.specs.Cycles.{NumbersFit};
 ghost use Rattle.jib_lower.specs.Directions.{FunctionsMade};
 ghost use Rattle.jib_lower.specs.Leads.{AllAlone, EachAlone};
@@ -15,7 +15,8 @@ ghost use Rattle.jib_lower.specs.Errors.{OrMemory};
 ghost use Rattle.jib_lower.specs.Left.{TypesLeft};
 ghost use Rattle.jib_lower.specs.Lowerable.{FlatLeft, FunctionsLeft, NotLowerable, OpenedLeft, PartsLeft, SomeLeft};
 ghost use Rattle.jib_lower.specs.Types.{numbered_types};
-ghost use Rattle.jib_lower.specs.Lowered.{FlatFrom, LoweredFrom};
+ghost use Rattle.jib_lower.specs.Lowered.{FlatBehind, LoweredBehind};
+ghost use Rattle.jib_lower.specs.Order.{Ordered, made_in};
 ghost use Rattle.jib_lower.specs.Parts.{FunctionsOf, ModelBy, OpenedOf, PartsOf};
 ghost use Rattle.jib_lower.specs.Tabled.{ShellOf, TableOf};
 
@@ -27,11 +28,11 @@ use crate::instances::{Model, all_called, make_instances, number_of};
 use crate::laws::modules_are_valid;
 use crate::leads::{each_alone, instances_alone};
 use crate::openings::{Opened, make_openings};
-use crate::turned::{made_many, turned_by};
+use crate::order::order_of;
+use crate::turned::turned_by;
 use crate::types::{are_small, exception_type, number_types, register_type};
 use jib::{Checked, Function as Made, Module, ValueType, are_typs};
-use lowered_ends::Mapped;
-use lowered_steps::{as_number, further};
+use lowered_steps::{Mapped, as_number, further};
 use lowered_tables::{Table, TableError};
 use lowered_typed::Called;
 use mappings::rewrite as without_directions;
@@ -78,15 +79,12 @@ fn push_registers(
 ) -> Result<(), AllocError>
     ensures { OnOk result (numbers.new ≡ numbers.old ++ map (λ r. type_in numbered.now (fixed_typ types.now r.typ)) registers.now) }
 {
-    match registers {
-        [] => Ok(()),
-        [first, rest @ ..] => {
-            let typ = register_type(alloc, types, first)?;
-            let number = number_of(numbered, &typ)?;
-            numbers.push(number)?;
-            push_registers(alloc, types, numbered, rest, numbers)
-        }
+    for register in registers {
+        let typ = register_type(alloc, types, register)?;
+        let number = number_of(numbered, &typ)?;
+        numbers.push(number)?;
     }
+    Ok(())
 }
 
 /// The types of registers, by their numbers. They fail where memory is wanting.
@@ -146,11 +144,13 @@ struct Parts {
     truths: Sized,
     /// What calls enter, by the places of instances.
     called: Items<Called>,
-    /// What calls of directions of mappings enter.
+    /// What is entered where directions of mappings are asked.
     directions: Items<Mapped>,
     /// The numbers of the cycles of directions, where they are made.
     turned: Items<Option<u32>>,
-    /// How many functions stand before those of directions.
+    /// The directions that are made, in the order of their functions.
+    order: Items<u32>,
+    /// How many functions stand before those of instances.
     before: u32,
     /// And before those of openings.
     opened_at: u32,
@@ -165,16 +165,18 @@ fn count_functions(sized: &SizedCore) -> Result<u32, AllocError>
     further(count, count)
 }
 
-/// The parts of a model of which directions with these numbers of cycles are made, where those of functions fit. It fails as `lower` does.
+/// The parts of a model of which directions with these numbers of cycles are made, in this order, where those of functions fit. It fails as `lower` does.
 fn parts_of(
     alloc: Global,
     core: &CoreModel,
     sized: &SizedCore,
     cycles: &[u32],
     turned: Items<Option<u32>>,
+    order: Items<u32>,
 ) -> Result<Parts, LowerError>
     requires fit { NumbersFit core.now.functions sized.now.instances sized.now.mappings (turns_of core.now) cycles.now }
     requires turned { turned ≡ spec_turned core.now sized.now cycles.now }
+    requires ordered { Ordered (calls_of core.now.directions) (made_in 0 turned) order }
     ensures parts { IfOk result (λ parts. PartsOf core.now sized.now parts) }
     ensures left { IfErr result (OrMemory (PartsLeft core.now sized.now)) }
 {
@@ -185,11 +187,11 @@ fn parts_of(
     let shell = make_shell(alloc, core, numbers, types)?;
     let called = all_called(alloc, core, sized, numbers, cycles, ways)?;
     let exception = exception_type(alloc, core.exception);
-    let before = count_functions(sized)?;
-    let made = made_many(ways)?;
-    let opened_at = further(before, made)?;
+    let before = as_number(order.len())?;
+    let many = count_functions(sized)?;
+    let opened_at = further(before, many)?;
     let mapped = core.directions.as_slice();
-    let directions = all_mapped(alloc, &core.types, before, mapped, ways)?;
+    let directions = all_mapped(alloc, &core.types, order.as_slice(), mapped)?;
     Ok(Parts {
         numbered,
         shell,
@@ -199,6 +201,7 @@ fn parts_of(
         called,
         directions,
         turned,
+        order,
         before,
         opened_at,
     })
@@ -212,7 +215,8 @@ fn make_parts(alloc: Global, core: &CoreModel, sized: &SizedCore) -> Result<Part
     let found = fitting_numbers(alloc, core, sized)?;
     let cycles = found.as_slice();
     let turned = turned_by(alloc, core, sized, cycles)?;
-    parts_of(alloc, core, sized, cycles, turned)
+    let order = order_of(alloc, core, turned.as_slice())?;
+    parts_of(alloc, core, sized, cycles, turned, order)
 }
 
 /// A model of these parts, where openings of these types are read, and these are of names.
@@ -231,6 +235,7 @@ fn model_by<'x>(
     let called = parts.called.as_slice();
     let directions = parts.directions.as_slice();
     let turned = parts.turned.as_slice();
+    let order = parts.order.as_slice();
     Model {
         core,
         sized,
@@ -242,12 +247,14 @@ fn model_by<'x>(
         called,
         directions,
         turned,
+        order,
+        before: parts.before,
         lets,
         openings,
     }
 }
 
-/// The functions of openings, which stand behind those of instances and of directions. They fail as `lower` does.
+/// The functions of openings, which stand behind those of directions and of instances. They fail as `lower` does.
 fn opened_of<'x>(
     alloc: Global,
     core: &'x CoreModel,
@@ -271,22 +278,18 @@ fn push_all(functions: &mut Items<Made>, others: Items<Made>) -> Result<(), Allo
     Ok(())
 }
 
-/// The functions of instances, and behind these, which are so many, those of directions. They fail as `lower` does.
-fn make_functions<'x>(
-    alloc: Global,
-    model: &'x Model<'x>,
-    before: u32,
-) -> Result<Items<Made>, LowerError>
-    ensures made { IfOk result (λ functions. FunctionsMade model.now before functions) }
-    ensures left { IfErr result (OrMemory (SomeLeft model.now before)) }
+/// The functions of directions, and behind these those of instances. They fail as `lower` does.
+fn make_functions<'x>(alloc: Global, model: &'x Model<'x>) -> Result<Items<Made>, LowerError>
+    ensures made { IfOk result (λ functions. FunctionsMade model.now functions) }
+    ensures left { IfErr result (OrMemory (SomeLeft model.now)) }
 {
-    let mut functions = make_instances(alloc, &*model)?;
-    let ways = make_ways(alloc, &*model, before)?;
-    push_all(&mut functions, ways)?;
+    let mut functions = make_ways(alloc, &*model)?;
+    let called = make_instances(alloc, &*model)?;
+    push_all(&mut functions, called)?;
     Ok(functions)
 }
 
-/// The functions of instances and of directions, which may read these openings. They fail as `lower` does.
+/// The functions of directions and of instances, which may read these openings. They fail as `lower` does.
 fn functions_of<'x>(
     alloc: Global,
     core: &'x CoreModel,
@@ -300,20 +303,30 @@ fn functions_of<'x>(
     let lets = opened.types.as_slice();
     let openings = opened.names.as_slice();
     let model = model_by(core, sized, parts, lets, openings);
-    make_functions(alloc, &model, parts.before)
+    make_functions(alloc, &model)
+}
+
+/// The module of a model.
+#[derive(Drop)]
+struct Placed {
+    /// The module.
+    program: Module,
+    /// How many functions of directions stand before those of instances.
+    before: u32,
 }
 
 /// The module of a model with flat arms, whose calls are told apart by the numbers of their nodes. It fails as `lower` does.
-fn module_of(alloc: Global, core: &CoreModel, sized: &SizedCore) -> Result<Module, LowerError>
+fn module_of(alloc: Global, core: &CoreModel, sized: &SizedCore) -> Result<Placed, LowerError>
     requires alone { AllAlone sized.now.instances }
     requires openings { EachAlone sized.now.openings }
-    ensures made { IfOk result (λ program. FlatFrom core.now sized.now program) }
+    ensures made { IfOk result (λ placed. FlatBehind core.now sized.now placed.program placed.before) }
     ensures left { IfErr result (OrMemory (FlatLeft core.now sized.now)) }
 {
     let parts = make_parts(alloc, core, sized)?;
     let opened = opened_of(alloc, &*core, &*sized, &parts)?;
     let mut functions = functions_of(alloc, &*core, &*sized, &parts, &opened)?;
     push_all(&mut functions, opened.functions)?;
+    let before = parts.before;
     let shell = parts.shell;
     let Module {
         types,
@@ -322,18 +335,19 @@ fn module_of(alloc: Global, core: &CoreModel, sized: &SizedCore) -> Result<Modul
         openings: _,
         functions: _,
     } = shell;
-    Ok(Module {
+    let program = Module {
         types,
         exception,
         registers,
         openings: opened.openings,
         functions,
-    })
+    };
+    Ok(Placed { program, before })
 }
 
 /// The module of a model with flat arms. It fails as `lower` does.
-fn lower_module(alloc: Global, core: &CoreModel, sized: &SizedCore) -> Result<Module, LowerError>
-    ensures made { IfOk result (λ program. FlatFrom core.now sized.now program) }
+fn lower_module(alloc: Global, core: &CoreModel, sized: &SizedCore) -> Result<Placed, LowerError>
+    ensures made { IfOk result (λ placed. FlatBehind core.now sized.now placed.program placed.before) }
     ensures left { IfErr result (OrMemory (FlatLeft core.now sized.now)) }
 {
     let instances = sized.instances.as_slice();
@@ -358,14 +372,17 @@ pub struct Lowered {
     pub flat: CoreModel,
     /// Its module.
     pub checked: Checked,
+    /// How many functions of directions stand before those of instances.
+    pub before: u32,
 }
 
-/// The module of a model as it is written, with the sizes of its nodes: of the i-th instance the function 2i, which calls enter, and the function 2i + 1,
-/// which events enter; behind them those of directions of mappings that are called, and those of openings. It fails where the tables of the model aren't whole under the numbers that are noted before a value is
-/// there, where a tree isn't lowered here or a case of it doesn't fit, where a type gets no number, and where memory is wanting.
+/// The module of a model as it is written, with the sizes of its nodes: first the functions of directions of mappings that are asked, each behind those that it
+/// asks, then of the i-th instance the function 2i behind these, which calls enter, and the function 2i + 1, which events enter, and behind them those of
+/// openings. It fails where the tables of the model aren't whole under the numbers that are noted before a value is there, where a tree isn't lowered here or a
+/// case of it doesn't fit, where a type gets no number, and where memory is wanting.
 pub fn lower(alloc: Global, written: CoreModel, sized: &SizedCore) -> Result<Lowered, LowerError>
     ensures flat { IfOk result (λ lowered. lowered.flat ≡ with_flat_arms (without_mappings written)) }
-    ensures made { IfOk result (λ lowered. LoweredFrom written sized.now lowered.checked.program) }
+    ensures made { IfOk result (λ lowered. LoweredBehind written sized.now lowered.checked.program lowered.before) }
     ensures left { IfErr result (OrMemory (NotLowerable written sized.now)) }
 {
     let tabled = core_tabled(alloc, false, &written)?;
@@ -374,11 +391,13 @@ pub fn lower(alloc: Global, written: CoreModel, sized: &SizedCore) -> Result<Low
         if resolved {
             let free = without_directions(alloc, written)?;
             let flat = rewrite(alloc, free)?;
-            let program = lower_module(alloc, &flat, sized)?;
+            let placed = lower_module(alloc, &flat, sized)?;
             modules_are_valid();
+            let Placed { program, before } = placed;
             Ok(Lowered {
                 flat,
                 checked: Checked { program },
+                before,
             })
         } else {
             Err(LowerError::NotResolved)

@@ -86,7 +86,7 @@ fn around_of<'x>(model: &'x Model<'x>, opened: &'x Opened) -> Around<'x>
         instances,
         given: &[],
         openings,
-        directions: &[],
+        before: model.before,
     }
 }
 
@@ -103,6 +103,7 @@ fn signs_of<'x>(model: &'x Model<'x>, opened: &'x Opened, typ: u32) -> Signs<'x>
         cycle: 0,
         called: &[],
         turned: &[],
+        below: 0,
     }
 }
 

@@ -86,16 +86,16 @@ fn highest_of(
 
 // ---- the numbers of directions
 
-/// What directions call, and which of them are made.
+/// What directions ask, and which of them are made.
 #[derive(Drop)]
 struct Crossings {
-    /// What each direction calls.
+    /// What each direction asks.
     calls: Items<Items<u32>>,
     /// The directions that are made.
     wanted: Items<u32>,
 }
 
-/// What a model's directions call, and which of them are made. They fail where memory is wanting.
+/// What a model's directions ask, and which of them are made. They fail where memory is wanting.
 fn crossings_of(alloc: Global, core: &CoreModel, sized: &SizedCore) -> Result<Crossings, AllocError>
     ensures calls { IfOk result (λ made. made.calls ≡ spec.calls_of core.now.directions) }
     ensures wanted { IfOk result (λ made. made.wanted ≡ spec.wanted_by (spec.turns_of core.now) sized.now.instances []) }
@@ -120,7 +120,7 @@ fn highest_with(numbers: &[u32], sized: &SizedCore, direction: u32, others: &[u3
     higher(own, rest)
 }
 
-/// The number of a direction that calls these, where it is made. It fails where memory is wanting.
+/// The number of a direction that asks these, where it is made. It fails where memory is wanting.
 fn turned_as(
     alloc: Global,
     numbers: &[u32],
@@ -143,7 +143,7 @@ fn turned_as(
     }
 }
 
-/// The numbers of directions from one on, each of which calls these, come behind others. They fail where memory is wanting.
+/// The numbers of directions from one on, each of which asks these, come behind others. They fail where memory is wanting.
 fn push_turned(
     alloc: Global,
     numbers: &[u32],
@@ -156,22 +156,14 @@ fn push_turned(
     ensures { OnOk result (turned.new ≡ turned.old
         ++ spec.turned_from numbers.now sized.now.instances sized.now.mappings crossings.now.calls crossings.now.wanted direction calls.now) }
 {
-    match calls {
-        [] => Ok(()),
-        [first, rest @ ..] => {
-            let one = turned_as(
-                alloc,
-                numbers,
-                sized,
-                crossings,
-                direction,
-                first.as_slice(),
-            )?;
-            turned.push(one)?;
-            let next = further(direction, 1)?;
-            push_turned(alloc, numbers, sized, crossings, next, rest, turned)
-        }
+    let mut place = direction;
+    for asked in calls {
+        let listed = asked.as_slice();
+        let one = turned_as(alloc, numbers, sized, crossings, place, listed)?;
+        turned.push(one)?;
+        place = further(place, 1)?;
     }
+    Ok(())
 }
 
 /// The numbers of a model's directions that are made, where its functions have these numbers. They fail where memory is wanting.
@@ -188,22 +180,6 @@ pub fn turned_by(
     let mut turned = Items::new(alloc);
     push_turned(alloc, numbers, sized, &crossings, 0, calls, &mut turned)?;
     Ok(turned)
-}
-
-/// How many directions are made. It fails where there are 2^32 or more.
-pub fn made_many(turned: &[Option<u32>]) -> Result<u32, AllocError>
-    ensures { IfOk result (λ count. count ≡ spec.made_many turned.now) }
-{
-    match turned {
-        [] => Ok(0),
-        [first, rest @ ..] => {
-            let behind = made_many(rest)?;
-            match first {
-                Some(_) => further(behind, 1),
-                None => Ok(behind),
-            }
-        }
-    }
 }
 
 // ---- what returns

@@ -98,14 +98,11 @@ fn add_cases(
     ensures listed { OnOk result (with_numbers types.now table.old.numbered (asked.types_in_cases cases.now) ≡ Some table.new.numbered) }
     ensures left { IfErr result (OrMemory (with_numbers types.now table.old.numbered (asked.types_in_cases cases.now) ≡ None)) }
 {
-    match cases {
-        [] => Ok(()),
-        [first, rest @ ..] => {
-            add_all(alloc, types, table, first.takes.as_slice())?;
-            add_type(alloc, types, table, &first.gives)?;
-            add_cases(alloc, types, table, rest)
-        }
+    for case in cases {
+        add_all(alloc, types, table, case.takes.as_slice())?;
+        add_type(alloc, types, table, &case.gives)?;
     }
+    Ok(())
 }
 
 /// The types of what calls take get numbers. It fails as for a type.
@@ -120,12 +117,28 @@ fn add_leads(
     ensures listed { OnOk result (with_numbers types.now table.old.numbered (asked.types_in_leads leads.now) ≡ Some table.new.numbered) }
     ensures left { IfErr result (OrMemory (with_numbers types.now table.old.numbered (asked.types_in_leads leads.now) ≡ None)) }
 {
-    match leads {
-        [] => Ok(()),
-        [first, rest @ ..] => {
-            add_all(alloc, types, table, first.takes.as_slice())?;
-            add_leads(alloc, types, table, rest)
-        }
+    for lead in leads {
+        add_all(alloc, types, table, lead.takes.as_slice())?;
+    }
+    Ok(())
+}
+
+/// The types of what a node makes and takes get numbers. It fails as for a type.
+fn add_node(
+    alloc: Global,
+    types: &Types,
+    table: &mut TypeList,
+    sizes: &NodeSizes,
+) -> Result<(), LowerError>
+    ensures known { OnOk result (all_in_nodes table.new.numbered (sizes.now ∷ []) ≡ true) }
+    ensures grown { OnOk result (Begins table.old.numbered table.new.numbered) }
+    ensures listed { OnOk result (with_numbers types.now table.old.numbered (asked.types_in_nodes (sizes.now ∷ [])) ≡ Some table.new.numbered) }
+    ensures left { IfErr result (OrMemory (with_numbers types.now table.old.numbered (asked.types_in_nodes (sizes.now ∷ [])) ≡ None)) }
+{
+    match sizes {
+        NodeSizes::Makes(_, _, cases) => add_cases(alloc, types, table, cases.as_slice()),
+        NodeSizes::Calls(_, leads) => add_leads(alloc, types, table, leads.as_slice()),
+        NodeSizes::Gives(_, _) => Ok(()),
     }
 }
 
@@ -141,20 +154,10 @@ pub fn add_nodes(
     ensures listed { OnOk result (with_numbers types.now table.old.numbered (asked.types_in_nodes nodes.now) ≡ Some table.new.numbered) }
     ensures left { IfErr result (OrMemory (with_numbers types.now table.old.numbered (asked.types_in_nodes nodes.now) ≡ None)) }
 {
-    match nodes {
-        [] => Ok(()),
-        [first, rest @ ..] => match first {
-            NodeSizes::Makes(_, _, cases) => {
-                add_cases(alloc, types, table, cases.as_slice())?;
-                add_nodes(alloc, types, table, rest)
-            }
-            NodeSizes::Calls(_, leads) => {
-                add_leads(alloc, types, table, leads.as_slice())?;
-                add_nodes(alloc, types, table, rest)
-            }
-            NodeSizes::Gives(_, _) => add_nodes(alloc, types, table, rest),
-        },
+    for sizes in nodes {
+        add_node(alloc, types, table, sizes)?;
     }
+    Ok(())
 }
 
 /// So do those of bodies. It fails as for a type.
@@ -169,13 +172,10 @@ fn add_bodies(
     ensures listed { OnOk result (with_numbers types.now table.old.numbered (asked.types_in_bodies bodies.now) ≡ Some table.new.numbered) }
     ensures left { IfErr result (OrMemory (with_numbers types.now table.old.numbered (asked.types_in_bodies bodies.now) ≡ None)) }
 {
-    match bodies {
-        [] => Ok(()),
-        [first, rest @ ..] => {
-            add_nodes(alloc, types, table, first.as_slice())?;
-            add_bodies(alloc, types, table, rest)
-        }
+    for nodes in bodies {
+        add_nodes(alloc, types, table, nodes.as_slice())?;
     }
+    Ok(())
 }
 
 /// The types of what comes in get numbers. It fails as for a type.
@@ -190,13 +190,10 @@ fn add_told(
     ensures listed { OnOk result (with_numbers types.now table.old.numbered (asked.types_in_told told.now) ≡ Some table.new.numbered) }
     ensures left { IfErr result (OrMemory (with_numbers types.now table.old.numbered (asked.types_in_told told.now) ≡ None)) }
 {
-    match told {
-        [] => Ok(()),
-        [first, rest @ ..] => {
-            add_cases(alloc, types, table, first.cases.as_slice())?;
-            add_told(alloc, types, table, rest)
-        }
+    for one in told {
+        add_cases(alloc, types, table, one.cases.as_slice())?;
     }
+    Ok(())
 }
 
 /// So do those of what comes in and goes out. It fails as for a type.
@@ -232,14 +229,11 @@ fn add_instances(
     ensures listed { OnOk result (with_numbers types.now table.old.numbered (asked.types_in_instances instances.now) ≡ Some table.new.numbered) }
     ensures left { IfErr result (OrMemory (with_numbers types.now table.old.numbered (asked.types_in_instances instances.now) ≡ None)) }
 {
-    match instances {
-        [] => Ok(()),
-        [first, rest @ ..] => {
-            add_signature(alloc, types, table, &first.signature)?;
-            add_bodies(alloc, types, table, first.bodies.as_slice())?;
-            add_instances(alloc, types, table, rest)
-        }
+    for instance in instances {
+        add_signature(alloc, types, table, &instance.signature)?;
+        add_bodies(alloc, types, table, instance.bodies.as_slice())?;
     }
+    Ok(())
 }
 
 /// The types of registers get numbers. It fails as for a type.
@@ -254,14 +248,11 @@ fn add_registers(
     ensures listed { OnOk result (with_numbers types.now table.old.numbered (asked.types_in_registers types.now registers.now) ≡ Some table.new.numbered) }
     ensures left { IfErr result (OrMemory (with_numbers types.now table.old.numbered (asked.types_in_registers types.now registers.now) ≡ None)) }
 {
-    match registers {
-        [] => Ok(()),
-        [first, rest @ ..] => {
-            let typ = register_type(alloc, types, first)?;
-            add_type(alloc, types, table, &typ)?;
-            add_registers(alloc, types, table, rest)
-        }
+    for register in registers {
+        let typ = register_type(alloc, types, register)?;
+        add_type(alloc, types, table, &typ)?;
     }
+    Ok(())
 }
 
 /// The types that every model has get numbers. It fails as for a type.

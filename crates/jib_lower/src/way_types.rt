@@ -10,7 +10,7 @@ use crate::entering::mapped_by;
 use crate::error::LowerError;
 use crate::instances::following;
 use crate::types::add_nodes;
-use lowered_ends::Mapped;
+use lowered_steps::Mapped;
 use lowered_tables::{TypeList, add_all};
 use sail_base::Items;
 use sail_core::Direction;

@@ -5,4 +5,4 @@ use Rattle.jib_lower.proofs.crossings.turn_of.Goals as goal
 
 pub returns : goal.returns
 returns c =
-    IfOk-weaker c.leads_from.result _ _ (λ all e. e ∙ ap (leads_from c.args.calls.now) (c.as_slice.ensures ∙ c.in_ok-called.ensures)) c.leads_from.ensures
+    IfOk-weaker c.leads_from.result _ _ (λ all e. e ∙ ap (leads_from c.args.calls.now) (c.as_slice.ensures ∙ c.in_ok-asked.ensures)) c.leads_from.ensures

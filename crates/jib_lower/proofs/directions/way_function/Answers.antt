@@ -1,6 +1,6 @@
 use Rattle.std.proofs.Common.{refl}
 use Rattle.std.proofs.lemmas.Result.{IfOk-weaker}
-use Rattle.jib_lower.proofs.Told.{tree_told}
+use Rattle.jib_lower.proofs.Told.{way_told}
 use Rattle.jib_lower.proofs.Unmade.{last_more}
 use Rattle.jib_lower.proofs.directions.way_function.Goals as goal
 
@@ -14,17 +14,18 @@ returns-clause-made c =
       judge = _;
       head = _;
       around = record {
-        setting = tree_told c.args.model.now c.in_ok-plain.plain c.as_slice-reads.result c.args.direction.now.body c.args.nodes.now
+        setting = way_told c.args.model.now c.in_ok-plain.plain c.as_slice-reads.result c.args.model.now.directions c.args.direction.now.body c.args.nodes.now
             c.in_ok-told.told c.as_slice-reads.ensures c.in_ok-told.ensures c.in_ok-plain.ensures;
         instances = c.as_slice-instances.ensures;
         given = c.from_ref-given.ensures.value;
         openings = refl;
-        directions = refl;
+        before = refl;
         judged = (refl, refl);
         shell = refl;
         lets = refl;
         called = refl;
         turned = refl;
+        below = refl;
         result = c.in_ok-result.ensures;
         is_pure = refl;
         cycle_is = refl;
@@ -47,17 +48,18 @@ returns-clause-left c =
       judge = _;
       head = _;
       around = record {
-        setting = tree_told c.args.model.now c.in_ok-plain.plain c.as_slice-reads.result c.args.direction.now.body c.args.nodes.now
+        setting = way_told c.args.model.now c.in_ok-plain.plain c.as_slice-reads.result c.args.model.now.directions c.args.direction.now.body c.args.nodes.now
             c.in_ok-told.told c.as_slice-reads.ensures c.in_ok-told.ensures c.in_ok-plain.ensures;
         instances = c.as_slice-instances.ensures;
         given = c.from_ref-given.ensures.value;
         openings = refl;
-        directions = refl;
+        before = refl;
         judged = (refl, refl);
         shell = refl;
         lets = refl;
         called = refl;
         turned = refl;
+        below = refl;
         result = c.in_ok-result.ensures;
         is_pure = refl;
         cycle_is = refl;

@@ -4,4 +4,4 @@ use Rattle.jib_lower.proofs.entering.all_mapped.Goals as goal
 
 pub returns : goal.returns
 returns c =
-    c.in_ok-push_mapped.ensures ∙ ap (λ xs. xs ++ mapped_from c.args.types.now c.args.function c.args.directions.now c.args.turned.now) c.new-all.ensures
+    c.in_ok-push_mapped.ensures ∙ ap (λ xs. xs ++ mapped_from c.args.types.now c.args.order.now 0 c.args.directions.now) c.new-all.ensures

@@ -19,12 +19,12 @@ returns-clause-made c =
       head = _;
       found = c.in_ok-function.ensures.found;
       plain = c.in_ok-signature.ensures.plain;
-      setting = setting_told c.args.model.now c.in_ok-plain.plain c.as_slice-listed.result c.in_ok-function.function.now c.as_slice-bodies.result.now
-          c.args.found.now.bodies c.as_slice-numbers.result.now c.args.found.now.instance.numbers c.in_ok-reads.reads c.as_slice-bodies.ensures
-          c.as_slice-numbers.ensures c.as_slice-listed.ensures c.in_ok-reads.ensures c.in_ok-plain.ensures;
-      around = record { instances = c.as_slice-instances.ensures; given = given; openings = refl; directions = refl };
+      setting = setting_told c.args.model.now c.in_ok-plain.plain c.as_slice-listed.result c.args.model.now.directions c.in_ok-function.function.now
+          c.as_slice-bodies.result.now c.args.found.now.bodies c.as_slice-numbers.result.now c.args.found.now.instance.numbers c.in_ok-reads.reads
+          c.as_slice-bodies.ensures c.as_slice-numbers.ensures c.as_slice-listed.ensures c.in_ok-reads.ensures c.in_ok-plain.ensures;
+      around = record { instances = c.as_slice-instances.ensures; given = given; openings = refl; before = refl };
       judged = (refl, refl);
-      signs = record { shell = refl; lets = refl; result = result; is_pure = refl; cycle_is = refl; called = refl; turned = refl };
+      signs = record { shell = refl; lets = refl; result = result; is_pure = refl; cycle_is = refl; called = refl; turned = refl; below = refl };
       headed = record { given = given; result = result; cycle_is = refl; lets = c.in_ok-lets.ensures; is_pure = refl };
       made = h;
     }) c.make_judged.ensures.made
@@ -41,12 +41,12 @@ returns-clause-left c =
       head = _;
       found = c.in_ok-function.ensures.found;
       plain = c.in_ok-signature.ensures.plain;
-      setting = setting_told c.args.model.now c.in_ok-plain.plain c.as_slice-listed.result c.in_ok-function.function.now c.as_slice-bodies.result.now
-          c.args.found.now.bodies c.as_slice-numbers.result.now c.args.found.now.instance.numbers c.in_ok-reads.reads c.as_slice-bodies.ensures
-          c.as_slice-numbers.ensures c.as_slice-listed.ensures c.in_ok-reads.ensures c.in_ok-plain.ensures;
-      around = record { instances = c.as_slice-instances.ensures; given = given; openings = refl; directions = refl };
+      setting = setting_told c.args.model.now c.in_ok-plain.plain c.as_slice-listed.result c.args.model.now.directions c.in_ok-function.function.now
+          c.as_slice-bodies.result.now c.args.found.now.bodies c.as_slice-numbers.result.now c.args.found.now.instance.numbers c.in_ok-reads.reads
+          c.as_slice-bodies.ensures c.as_slice-numbers.ensures c.as_slice-listed.ensures c.in_ok-reads.ensures c.in_ok-plain.ensures;
+      around = record { instances = c.as_slice-instances.ensures; given = given; openings = refl; before = refl };
       judged = (refl, refl);
-      signs = record { shell = refl; lets = refl; result = result; is_pure = refl; cycle_is = refl; called = refl; turned = refl };
+      signs = record { shell = refl; lets = refl; result = result; is_pure = refl; cycle_is = refl; called = refl; turned = refl; below = refl };
       headed = record { given = given; result = result; cycle_is = refl; lets = c.in_ok-lets.ensures; is_pure = refl };
       why = why;
     })) c.make_judged.ensures.left

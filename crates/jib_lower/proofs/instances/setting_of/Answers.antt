@@ -8,6 +8,7 @@ returns c = record {
   bodies_are = refl;
   numbers_are = refl;
   reads_are = refl;
+  directions_are = refl;
   nothing = refl;
   truths = refl;
   unit = c.in_ok-unit.ensures;

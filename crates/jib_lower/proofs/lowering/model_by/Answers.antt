@@ -13,4 +13,6 @@ returns-clause-is c = record {
   called = c.as_slice-called.ensures;
   directions = c.as_slice-directions.ensures;
   turned = c.as_slice-turned.ensures;
+  order = c.as_slice-order.ensures;
+  before = refl;
 }

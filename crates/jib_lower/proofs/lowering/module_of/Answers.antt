@@ -1,12 +1,12 @@
 use Rattle.std.proofs.Common.{refl}
-use Rattle.jib_lower.proofs.Joined.{flat_from}
+use Rattle.jib_lower.proofs.Joined.{flat_behind}
 use Rattle.jib_lower.specs.Lowerable.{functions_left, openings_left, parts_left}
 use Rattle.jib_lower.proofs.Unmade.{exit_more}
 use Rattle.jib_lower.proofs.lowering.module_of.Goals as goal
 
 pub returns-clause-made : goal.returns-clause-made
 returns-clause-made c =
-    flat_from c.args.core.now c.args.sized.now c.in_ok-parts.parts c.in_ok-opened.opened c.in_ok-functions.functions _ c.in_ok-parts.ensures.parts
+    flat_behind c.args.core.now c.args.sized.now c.in_ok-parts.parts c.in_ok-opened.opened c.in_ok-functions.functions _ c.in_ok-parts.ensures.parts
     c.in_ok-opened.ensures.opened c.in_ok-functions.ensures.made c.requires.alone c.requires.openings refl refl refl c.in_ok-push_all.ensures refl
 
 pub returns-in_err-parts-clause-left : goal.returns-in_err-parts-clause-left

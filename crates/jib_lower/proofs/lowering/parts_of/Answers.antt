@@ -1,7 +1,6 @@
-use Rattle.std.proofs.Common.{◌≡◌, ◌∙◌, ◌+◌, ap, refl, subst, sym}
+use Rattle.std.proofs.Common.{◌∙◌, ◌+◌, ap, refl, subst, sym}
 use Rattle.jib.specs.Operands.{each}
 use Rattle.jib.specs.Valid.{typ_right}
-use Rattle.jib_lower.specs.Crossings.{made_many}
 use Rattle.jib_lower.specs.Entering.{mapped_from}
 use Rattle.jib_lower.specs.Instances.{CalledAre}
 use Rattle.jib_lower.specs.Left.{TypesLeft, types_not_right}
@@ -25,12 +24,12 @@ returns-clause-parts c = record {
   called = subst (λ ts. CalledAre c.args.core.now c.args.sized.now c.in_ok-table.table.numbered c.in_ok-called.called ts) c.as_slice-ways.ensures
       (subst (λ ns. CalledAre c.args.core.now c.args.sized.now ns c.in_ok-called.called c.as_slice-ways.result.now) c.as_slice-numbers.ensures
       c.in_ok-called.ensures.called);
-  before = c.in_ok-before.ensures;
+  ordered = c.requires.ordered;
   entered = c.in_ok-directions.ensures
-      ∙ ap (λ ms. mapped_from c.args.core.now.types c.in_ok-before.before ms c.as_slice-ways.result.now) c.as_slice-mapped.ensures
-      ∙ ap (mapped_from c.args.core.now.types c.in_ok-before.before c.args.core.now.directions) c.as_slice-ways.ensures;
-  opened_at = c.in_ok-opened_at.ensures
-      ∙ ap (λ n. c.in_ok-before.before + n) (c.in_ok-made.ensures ∙ ap made_many c.as_slice-ways.ensures);
+      ∙ ap (λ ms. mapped_from c.args.core.now.types c.as_slice.result.now 0 ms) c.as_slice-mapped.ensures
+      ∙ ap (λ ds. mapped_from c.args.core.now.types ds 0 c.args.core.now.directions) c.as_slice.ensures;
+  before = c.in_ok-before.ensures ∙ c.len.ensures;
+  opened_at = c.in_ok-opened_at.ensures ∙ ap (λ n. c.in_ok-before.before + n) c.in_ok-many.ensures;
 }
 
 pub returns-in_err-table-clause-left : goal.returns-in_err-table-clause-left

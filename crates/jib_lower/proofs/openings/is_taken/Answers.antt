@@ -4,7 +4,7 @@ use Rattle.jib_lower.proofs.Unmade.{first_naming, not_both}
 use Rattle.lowered_pieces.specs.Mapped.{ends_with, fixed_end}
 use Rattle.lowered_ends.specs.Around.{node_for}
 use Rattle.lowered_pieces.specs.Arms.{arm_fits}
-use Rattle.lowered_steps.specs.Setting.{reads_at, size_for}
+use Rattle.lowered_steps.specs.Setting.{crosses_for, reads_at, size_for}
 use Rattle.jib_lower.proofs.openings.is_taken.Goals as goal
 
 pub returns-then-seen-clause-is : goal.returns-then-seen-clause-is
@@ -39,6 +39,8 @@ returns-else-differ-clause-no c = λ lack. record {
 pub returns-else-lowered-clause-no : goal.returns-else-lowered-clause-no
 returns-else-lowered-clause-no c = λ lack. record {
   why = λ taken.
-      not_both (arm_fits (size_for c.args.walk.now.setting.now) (reads_at c.args.walk.now.setting.now.reads.now) c.args.arm.now) taken.lowered
+      not_both
+      (arm_fits (size_for c.args.walk.now.setting.now) (crosses_for c.args.walk.now.setting.now) (reads_at c.args.walk.now.setting.now.reads.now)
+      c.args.arm.now) taken.lowered
       (sym c.is_arm-lowered.ensures ∙ c.if-lowered.false);
 }

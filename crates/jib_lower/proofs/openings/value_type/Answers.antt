@@ -11,11 +11,12 @@ returns-in-Some-clause-typ c = record {
     instances = c.around_of-around.ensures.instances;
     given = c.around_of-around.ensures.given;
     openings = c.around_of-around.ensures.openings;
-    directions = c.around_of-around.ensures.directions;
+    before_is = c.around_of-around.ensures.before;
     shell = c.signs_of-signs.ensures.shell;
     lets = c.signs_of-signs.ensures.lets;
     called = c.signs_of-signs.ensures.called;
     turned = c.signs_of-signs.ensures.turned;
+    below = c.signs_of-signs.ensures.below;
     result = c.signs_of-signs.ensures.result_is;
     is_pure = c.signs_of-signs.ensures.is_pure;
   };
@@ -31,11 +32,12 @@ returns-clause-left c = record {
     instances = c.around_of-around.ensures.instances;
     given = c.around_of-around.ensures.given;
     openings = c.around_of-around.ensures.openings;
-    directions = c.around_of-around.ensures.directions;
+    before_is = c.around_of-around.ensures.before;
     shell = c.signs_of-signs.ensures.shell;
     lets = c.signs_of-signs.ensures.lets;
     called = c.signs_of-signs.ensures.called;
     turned = c.signs_of-signs.ensures.turned;
+    below = c.signs_of-signs.ensures.below;
     result = c.signs_of-signs.ensures.result_is;
     is_pure = c.signs_of-signs.ensures.is_pure;
   };

@@ -1,5 +1,0 @@
-use Rattle.std.proofs.Common.{length}
-use Rattle.jib_lower.proofs.instances.+push_told.Given as goal
-
-abbrev pub decreases-push_told : goal.decreases-push_told
-decreases-push_told l = length l.told.now

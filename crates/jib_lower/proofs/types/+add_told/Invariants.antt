@@ -1,5 +1,0 @@
-use Rattle.std.proofs.Common.{length}
-use Rattle.jib_lower.proofs.types.+add_told.Given as goal
-
-abbrev pub decreases-add_told : goal.decreases-add_told
-decreases-add_told l = length l.told.now
