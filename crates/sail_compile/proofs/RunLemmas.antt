@@ -16,8 +16,9 @@ use Rattle.jib_lower.specs.declared.error.LowerError.{LowerError}
 use Rattle.jib_lower.specs.declared.error.LowerError.TheVariants as L
 use Rattle.jib_lower.specs.Errors.{OrMemory}
 use Rattle.jib_lower.specs.Lowerable.{NotLowerable}
-use Rattle.jib_lower.specs.Lowered.{LoweredFrom}
+use Rattle.jib_lower.specs.Lowered.{LoweredBehind}
 use Rattle.jib_machine.specs.Events.{blank, events}
+use Rattle.jib_machine.specs.declared.entries.Entries.{Entries}
 use Rattle.jib_machine.specs.declared.machine.Machine.{Machine}
 use Rattle.mappings.specs.Rewriting.{without_mappings}
 use Rattle.match_rewrite.specs.Rewriting.{with_flat_arms}
@@ -27,7 +28,7 @@ use Rattle.sized_trees.specs.Trees.{Answer, IsMet, sized_core}
 use Rattle.sized_nodes.specs.declared.trees.SizedCore.{SizedCore}
 use Rattle.sail_compile.specs.Checked.{checked, checked_core, core_of}
 use Rattle.sail_compile.specs.Engines.{HasRegisters, IsNotWanted, IsTried, RunsAs}
-use Rattle.sail_compile.specs.Meanings.{CodeLeft, CodeMeans, IsNumbered, JibMeans, entries, jib, no_sizes, not_closed, not_lowered}
+use Rattle.sail_compile.specs.Meanings.{CodeLeft, IsNumbered, entries, jib, no_sizes, not_closed, not_lowered}
 use Rattle.sail_compile.specs.declared.compiled.Running.{Running}
 use Rattle.sail_compile.specs.declared.compiled.Running.TheVariants as R
 use Rattle.sail_compile.specs.parts.Runs.{CodeRuns, CoreRuns, RunsCode, ZeroedRuns, meant}
@@ -134,8 +135,8 @@ left_unsized core error (inr none) no_memory = absurd (no_memory (error_same err
 
 -- ---- the machine of what a core is lowered to
 
-module _ (written : CoreModel) (sized : SizedCore) (flat : CoreModel) (program : Module) (sizes : sized_core written ≡ Ok sized)
-    (is_flat : flat ≡ with_flat_arms (without_mappings written)) (low : LoweredFrom written sized program) where
+module _ (written : CoreModel) (sized : SizedCore) (flat : CoreModel) (program : Module) (before : ℕ) (sizes : sized_core written ≡ Ok sized)
+    (is_flat : flat ≡ with_flat_arms (without_mappings written)) (low : LoweredBehind written sized program before) where
   types_are : flat.types ≡ written.types
   types_are = ap (λ (c : CoreModel). c.types) is_flat
 
@@ -143,29 +144,30 @@ module _ (written : CoreModel) (sized : SizedCore) (flat : CoreModel) (program :
   registers_are = ap (λ (c : CoreModel). c.registers) is_flat
 
   machine_runs : (machine : Machine) → machine.program ≡ program → machine.types ≡ flat.types → machine.registers ≡ flat.registers
-      → machine.entries ≡ entries → Opens program flat.types blank program.openings [] machine.opened machine.lets → RunsCode written machine
+      → machine.entries ≡ entries before → Opens program flat.types blank program.openings [] machine.opened machine.lets → RunsCode written machine
   machine_runs machine same types registers enters opens =
       let typed : machine.types ≡ written.types = types ∙ types_are in
       let held : machine.registers ≡ written.registers = registers ∙ registers_are in
+      let behind : LoweredBehind written sized machine.program before = subst (λ p. LoweredBehind written sized p before) (sym same) low in
       record {
         means = record {
           sized = sized;
           sizes = sizes;
           program = machine.program;
-          lowered = subst (λ p. LoweredFrom written sized p) (sym same) low;
+          lowered = behind.from;
           sound = machine.kept;
           opened = machine.opened;
           lets = machine.lets;
           opens =
               subst (λ p. Opens p written.types blank p.openings [] machine.opened machine.lets) (sym same)
               (subst (λ t. Opens program t blank program.openings [] machine.opened machine.lets) types_are opens);
-          is = λ i. events machine.program machine.kept (typed i) (held i) (enters i) machine.opened machine.lets;
+          is = λ i. events machine.program machine.kept (typed i) (held i) ((enters ∙ ap entries behind.many) i) machine.opened machine.lets;
         };
         registers = held;
       }
 
-  pub started : {E : Type 0} (r : Result Machine E) → IfOk r (λ m. m.program ≡ program) → IfOk r (λ m. m.types ≡ flat.types)
-      → IfOk r (λ m. m.registers ≡ flat.registers) → IfOk r (λ m. m.entries ≡ entries)
+  pub started : {E : Type 0} (given : Entries) → given ≡ entries before → (r : Result Machine E) → IfOk r (λ m. m.program ≡ program)
+      → IfOk r (λ m. m.types ≡ flat.types) → IfOk r (λ m. m.registers ≡ flat.registers) → IfOk r (λ m. m.entries ≡ given)
       → IfOk r (λ m. Opens program flat.types blank program.openings [] m.opened m.lets) → IfOk r (RunsCode written)
-  started (Ok machine) same types registers enters opens = machine_runs machine same types registers enters opens
-  started (Err e) same types registers enters opens = same
+  started given is (Ok machine) same types registers enters opens = machine_runs machine same types registers (enters ∙ is) opens
+  started given is (Err e) same types registers enters opens = same

@@ -1,5 +1,5 @@
 -- What the engine of flat code means by the definitions of a model.
-use Rattle.std.specs.Prelude.{◌≡◌, ℕ, true, false, List, [], Option, Err, Ok}
+use Rattle.std.specs.Prelude.{◌≡◌, ℕ, ◌+◌, true, false, List, [], length, Option, Err, Ok}
 use Rattle.sail_types.specs.declared.values.Value.{Value}
 use Rattle.sail_syntax.specs.declared.definitions.Def.{Def}
 use Rattle.sail_core.specs.declared.model.CoreModel.{CoreModel}
@@ -27,9 +27,9 @@ use Rattle.sail_compile.specs.Checked.{checked_core}
 use Rattle.sail_compile.specs.Engines.{Meant}
 use Rattle.sail_compile.specs.Zeros.{have_zeros}
 
--- the functions that events enter: those of the first two instances, which are of `reset` and `step`
-abbrev pub entries : Entries
-entries = record { reset = 1; step = 3 }
+-- the functions that events enter: those of the first two instances, which are of `reset` and `step`, behind so many functions of directions of mappings
+abbrev pub entries : ℕ → Entries
+entries before = record { reset = before + 1; step = before + 3 }
 
 -- the meaning of the flat code that a core is lowered to, once its openings are worked out
 pub record CodeMeans (core : CoreModel) (m : Meaning) : Type 0 where
@@ -41,7 +41,7 @@ pub record CodeMeans (core : CoreModel) (m : Meaning) : Type 0 where
   pub opened : List Ended
   pub lets : List Value
   pub opens : Opens program core.types blank program.openings [] opened lets
-  pub is : m ≡ events program sound core.types core.registers entries opened lets
+  pub is : m ≡ events program sound core.types core.registers (entries (length lowered.flat.ways)) opened lets
 
 -- numbers of the cycles of calls of a text: two functions have one number where each reaches the other, and one that reaches itself has one
 pub record NumbersCycles (text : List Def) (cycle : List ℕ → Option ℕ) : Type 0 where

@@ -1,9 +1,9 @@
 //! The engine of the program: flat code, and the machine that runs it.
-ghost use Rattle.std.specs.Prelude.{◌≡◌, Err, IfOk, IsTrue, None, Ok, Some, is_some};
+ghost use Rattle.std.specs.Prelude.{◌≡◌, ◌+◌, Err, IfOk, IsTrue, None, Ok, Some, is_some};
 ghost use Rattle.bidir_check.specs.Checking.{IsMet as IsChecked};
 ghost use Rattle.jib_lower.specs.Errors.{OrMemory};
 ghost use Rattle.jib_lower.specs.Lowerable.{NotLowerable};
-ghost use Rattle.jib_lower.specs.Lowered.{LoweredFrom};
+ghost use Rattle.jib_lower.specs.Lowered.{LoweredBehind};
 ghost use Rattle.mappings.specs.Rewriting.{without_mappings};
 ghost use Rattle.match_rewrite.specs.Rewriting.{with_flat_arms};
 ghost use Rattle.sail_core.specs.declared.model.CoreModel.{CoreModel as ACore};
@@ -11,6 +11,7 @@ ghost use Rattle.sized_trees.specs.Trees.{IsMet, sized_core as sizes_of};
 ghost use Rattle.sized_nodes.specs.declared.trees.SizedCore.{SizedCore as Sizes};
 ghost use Rattle.sail_compile.specs.Checked.{checked_core};
 ghost use Rattle.sail_compile.specs.Engines.{IsNotWanted, IsTried};
+ghost use Rattle.sail_compile.specs.Meanings.{entries as entered};
 ghost use Rattle.sail_compile.specs.parts.Runs.{CodeRuns, CoreRuns, RunsCode, ZeroedRuns};
 
 use crate::checking::certify;
@@ -144,12 +145,35 @@ fn unless_memory(error: LowerError) -> Result<Running<Machine>, AllocError>
     }
 }
 
+/// The number of the function at a place behind so many others. It fails where there are 2^32 functions or more.
+fn behind(before: u32, place: u32) -> Result<u32, AllocError>
+    ensures { IfOk result (λ number. number ≡ before + place) }
+{
+    match before.checked_add(place) {
+        Some(number) => Ok(number),
+        None => Err(AllocError),
+    }
+}
+
+/// The functions that events enter, behind so many functions of directions. It fails where there are 2^32 functions or more.
+fn entries_behind(before: u32) -> Result<Entries, AllocError>
+    ensures { IfOk result (λ made. made ≡ entered before) }
+{
+    let reset = behind(before, 1)?;
+    let step = behind(before, 3)?;
+    Ok(Entries { reset, step })
+}
+
 /// The machine of a model that is lowered. It fails where memory is wanting.
 fn start(alloc: Global, lowered: Lowered) -> Result<Machine, AllocError>
     ensures { (written : ACore) (sized : Sizes) → sizes_of written ≡ Ok sized → lowered.flat ≡ with_flat_arms (without_mappings written)
-        → LoweredFrom written sized lowered.checked.program → IfOk result (RunsCode written) }
+        → LoweredBehind written sized lowered.checked.program lowered.before → IfOk result (RunsCode written) }
 {
-    let Lowered { flat, checked } = lowered;
+    let Lowered {
+        flat,
+        checked,
+        before,
+    } = lowered;
     let CoreModel {
         types,
         exception: _,
@@ -161,6 +185,6 @@ fn start(alloc: Global, lowered: Lowered) -> Result<Machine, AllocError>
         reset: _,
         step: _,
     } = flat;
-    let entries = Entries { reset: 1, step: 3 };
+    let entries = entries_behind(before)?;
     Machine::new(alloc, checked, types, registers, entries)
 }
