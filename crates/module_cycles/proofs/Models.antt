@@ -18,19 +18,23 @@ use Rattle.jib.specs.declared.code.Module.{Module}
 use Rattle.jib.specs.Jib.{cycle_in, cycle_of}
 use Rattle.jib.specs.declared.code.Function.{Function as Lowered}
 use Rattle.lowered_pieces.specs.Nodes.{awaited_in, function_in, leads_at}
-use Rattle.lowered_ends.specs.Around.{direction_in}
-use Rattle.lowered_pieces.specs.Forms.{Mapped}
+use Rattle.lowered_steps.specs.Setting.{direction_in}
+use Rattle.lowered_pieces.specs.Places.{Mapped}
 use Rattle.lowered_laws.specs.Modules.{Leads, Made}
 use Rattle.lowered_typed.specs.Judging.{turned_in}
 use Rattle.lowered_typed.specs.declared.signs.Called.{Called}
 use Rattle.jib_lower.specs.Cycles.{number_there, alike, bodies_fall, cycle_at, in_one, instances_fall, leads_fall, mapping_falls, nodes_fall, pair_fits}
-use Rattle.jib_lower.specs.Instances.{Enters, MadeAt}
+use Rattle.jib_lower.specs.Instances.{MadeAt}
 use Rattle.jib_lower.specs.Lowered.{FlatFrom}
 use Rattle.jib_lower.proofs.Basics.{get_past}
 use Rattle.lowered_cycles.specs.Laws.{CyclesStand}
 use Rattle.module_cycles.specs.Laws.{OfModel, cycle_by, cycle_there, nodes_by, nodes_of, way_cycle, way_nodes}
 use Rattle.module_cycles.proofs.Falls.{turned_falls}
 use Rattle.module_cycles.proofs.Ways.{WayThere, way_there}
+use Rattle.jib_lower.specs.Crossings.{is_in}
+use Rattle.jib_lower.specs.Entering.{mapped_by, place_in}
+use Rattle.jib_lower.specs.Order.{made_in}
+use Rattle.jib_lower.proofs.Found.{made_there, mapped_at}
 
 none_is : {A X : Type 0} (x : A) → None ≡ Some x → X
 none_is x e = cc
@@ -151,6 +155,25 @@ none_past (x ∷ xs) k = ap (slice_get (x ∷ xs)) (next (length xs) k) ∙ none
 pub back : (n k : ℕ) → n + k - n ≡ k
 back n k = omega arith
 
+from_first : (k : ℕ) → 0 + k ≡ k
+from_first k = omega arith
+
+-- a direction that has a number of a cycle stands in the order of their functions
+pub in_order : (core : CoreModel) (sized : SizedCore) (m : Module) (low : FlatFrom core sized m) (d c : ℕ)
+    → slice_get low.model.turned.now d ≡ Some (Some c) → is_in d low.model.order.now ≡ true
+in_order core sized m low d c e =
+    low.ordered.same d
+    ∙ subst (λ k. is_in k (made_in 0 low.model.turned.now) ≡ true) (from_first d) (made_there 0 low.model.turned.now d c e)
+
+-- and this is entered where it is asked
+pub entered_at : (core : CoreModel) (sized : SizedCore) (m : Module) (low : FlatFrom core sized m) (d : ℕ) (w : WayThere low.directions d)
+    → slice_get low.model.directions.now d ≡ Some (mapped_by core.types (place_in low.model.order.now d) w.at.direction)
+entered_at core sized m low d w =
+    ap (λ ms. slice_get ms d) low.entered
+    ∙ mapped_at core.types low.model.order.now 0 core.directions d w.at.direction
+    (sym (ap (λ (z : CoreModel). slice_get z.directions d) low.is.of_core) ∙ ap (slice_get low.model.core.now.directions) (sym w.is_which) ∙ w.at.found)
+    ∙ ap (λ n. Some (mapped_by core.types (place_in low.model.order.now n) w.at.direction)) (from_first d)
+
 module _ (core : CoreModel) (sized : SizedCore) (m : Module) (x : Made) (low : FlatFrom core sized m) (of : OfModel core sized m low x) where
   abbrev numbers : List ℕ
   numbers = low.called.cycles
@@ -173,7 +196,8 @@ module _ (core : CoreModel) (sized : SizedCore) (m : Module) (x : Made) (low : F
       let at : MadeAt low.model low.functions p y = low.instances.each p y (ap (λ (z : SizedCore). slice_get z.instances p) low.is.of_sized ∙ e) in
       let q = low.called.each p y e in
       ap (λ z. cycle_of z (x.function p)) of.module_is ∙ ap (cycle_of m) (of.function p)
-      ∙ ap cycle_in (ap (λ fs. slice_get fs (2 * p)) low.all ∙ got_before low.functions (low.ways ++ low.opened) (2 * p) at.called at.called_there)
+      ∙ ap cycle_in (ap (λ fs. slice_get fs (length low.ways + 2 * p)) low.all ∙ get_past low.ways (low.functions ++ low.opened) (2 * p)
+      ∙ got_before low.functions low.opened (2 * p) at.called at.called_there)
       ∙ at.made.called_is.cycle ∙ at.headed.cycle_is
       ∙ ap (λ (c : Called). c.cycle) (some_same at.called_is q.0 (sym at.enters ∙ q.1)) ∙ q.2.cycle
 
@@ -252,15 +276,15 @@ module _ (core : CoreModel) (sized : SizedCore) (m : Module) (x : Made) (low : F
 
   function_cycle : (d c : ℕ) → slice_get turned d ≡ Some (Some c) → cycle_of x.m (x.direction d).function ≡ c
   function_cycle d c e =
-      let n : ℕ = 2 * length sized.instances in
-      let w : WayThere low.directions core.types d c = way_there low.directions core.types d c e in
-      let many : length low.functions ≡ n = low.instances.many ∙ ap (λ (z : SizedCore). 2 * length z.instances) low.is.of_sized in
+      let w : WayThere low.directions d = way_there low.directions d (in_order core sized m low d c e) in
+      let place : ℕ = place_in low.model.order.now d in
       ap (λ z. cycle_of z (x.direction d).function) of.module_is
-      ∙ ap (λ (z : Mapped). cycle_of m z.function) (of.direction d ∙ ap direction_in (ap (λ ms. slice_get ms d) low.entered ∙ w.entered))
-      ∙ ap (λ k. cycle_of m (k + w.at)) (sym many)
-      ∙ ap cycle_in (ap (λ fs. slice_get fs (length low.functions + w.at)) low.all ∙ get_past low.functions (low.ways ++ low.opened) w.at
-      ∙ got_before low.ways low.opened w.at w.code w.there)
-      ∙ w.is.taken.code.is.cycle ∙ w.is.taken.around.head_cycle ∙ w.owned
+      ∙ ap (λ (z : Mapped). cycle_of m z.function) (of.direction d ∙ ap direction_in (entered_at core sized m low d w))
+      ∙ ap cycle_in (ap (λ fs. slice_get fs place) low.all ∙ got_before low.ways (low.functions ++ low.opened) place w.code w.there)
+      ∙ w.at.is.taken.code.is.cycle ∙ w.at.is.taken.around.head_cycle ∙ same_cycle w.at.cycle c (sym w.at.turned ∙ ap (slice_get turned) w.is_which ∙ e)
+    where
+      same_cycle : (a b : ℕ) → Some (Some a) ≡ Some (Some b) → a ≡ b
+      same_cycle a b e = some_same a b (some_same (Some a) (Some b) e)
 
   is_way : (p d : ℕ) → x.crosses p d ≡ true → cycle_of x.m (x.direction d).function ≡ at_place (x.way d)
   is_way p d h =

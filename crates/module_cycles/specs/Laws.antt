@@ -7,7 +7,7 @@ use Rattle.sized_nodes.specs.declared.trees.SizedInstance.{SizedInstance}
 use Rattle.sized_meanings.specs.Sized.{joined_nodes}
 use Rattle.jib.specs.declared.code.Module.{Module}
 use Rattle.lowered_pieces.specs.Nodes.{awaited_in, function_in, leads_at}
-use Rattle.lowered_ends.specs.Around.{direction_in}
+use Rattle.lowered_steps.specs.Setting.{direction_in}
 use Rattle.lowered_laws.specs.Modules.{Agrees, Made}
 use Rattle.lowered_typed.specs.Judging.{turned_in}
 use Rattle.jib_lower.specs.Lowered.{FlatFrom}
@@ -39,7 +39,7 @@ module _ (core : CoreModel) (sized : SizedCore) (m : Module) (low : FlatFrom cor
   abbrev pub cycle_there : ℕ → ℕ
   cycle_there p = cycle_by low.called.cycles low.model.turned.now (p - length sized.instances) (slice_get sized.instances p)
 
-  -- the directions that it may call
+  -- the directions that it may call or ask
   abbrev pub may_cross : ℕ → ℕ → Bool
   may_cross p d = turned_in (cycle_there p) (slice_get low.model.turned.now d)
 
@@ -47,7 +47,7 @@ module _ (core : CoreModel) (sized : SizedCore) (m : Module) (low : FlatFrom cor
   pub record OfModel (x : Made) : Type 0 where
     pub module_is : x.m ≡ m
     pub functions : x.s.functions ≡ core.functions
-    pub function : (p : ℕ) → x.function p ≡ 2 * p
+    pub function : (p : ℕ) → x.function p ≡ length low.ways + 2 * p
     pub leads : (p k : ℕ) → (x.tables p).leads k ≡ leads_at k (nodes_of p)
     pub of : (p q : ℕ) → (x.tables p).of q ≡ function_in (slice_get sized.instances q)
     pub awaits : (p q : ℕ) → (x.tables p).awaits q ≡ awaited_in (slice_get sized.instances q)

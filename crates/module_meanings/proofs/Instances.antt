@@ -1,5 +1,6 @@
 -- Both functions of an instance are the code of the instance: what may be entered has its code.
 use Rattle.std.proofs.Common.{◌≡◌, ◌∙◌, ℕ, zero, suc, ◌+◌, ℤ, Bool, true, false, List, [], ◌∷◌, Option, Some, None, refl, sym, ap, subst}
+use Rattle.std.proofs.Common.{arith}
 use Rattle.std.specs.Prelude.{◌*◌, ◌-◌, ◌++◌, ◌&&◌, length, option_map, slice_get}
 use Rattle.std.proofs.lemmas.Bool.{and_parts}
 use Rattle.sail_types.specs.Sums.{and_then}
@@ -41,7 +42,7 @@ use Rattle.lowered_ends.specs.Around.{node_for}
 use Rattle.lowered_ends.specs.declared.around.Around.{Around}
 use Rattle.lowered_functions.specs.Made.{CodeMade, called_for, event_for}
 use Rattle.lowered_typed.specs.Here as Here
-use Rattle.lowered_typed.specs.Judging.{callees_here, number_here, signs_here, tables_here, turned_in, typed}
+use Rattle.lowered_typed.specs.Judging.{typed}
 use Rattle.lowered_typed.specs.declared.signs.Called.{Called}
 use Rattle.lowered_laws.specs.Crossings.{crosses_within}
 use Rattle.lowered_laws.specs.Modules.{AllLowered, AllTick, EventsLowered, Lowered, Made, Shape, event_shape}
@@ -56,16 +57,17 @@ use Rattle.jib_lower.specs.Instances.{MadeAt}
 use Rattle.jib_lower.specs.Lowered.{FlatFrom}
 use Rattle.jib_lower.specs.Reads.{function_reads}
 use Rattle.jib_lower.specs.Types.{all_in_bodies, all_in_cases, all_in_told, in_signature}
-use Rattle.jib_lower.proofs.Basics.{basic_of, got_before}
+use Rattle.jib_lower.proofs.Basics.{basic_of, get_past, got_before}
 use Rattle.jib_lower.proofs.Placing.{basics, exception_here}
 use Rattle.module_meanings.proofs.Alone.{AllAlone}
 use Rattle.module_cycles.specs.Laws.{cycle_by, cycle_there, may_cross, nodes_by, nodes_of}
-use Rattle.module_meanings.proofs.Around.{crossed_same, every, kit_by, kit_same, node_at, node_same, numbers_same, size_by, tables_by, tells_read, truth_by}
-use Rattle.module_meanings.proofs.Crossed.{crosses_wider, right_crosses}
+use Rattle.module_meanings.proofs.Around.{crossed_same, every, kit_at, kit_same, node_at, node_same, numbers_same, size_by, tables_by, tells_read, truth_by}
+use Rattle.module_meanings.proofs.Around.{ways_by}
+use Rattle.module_meanings.proofs.Crossed.{crosses_wider}
 use Rattle.module_meanings.proofs.Known.{all_had, bodies_there, instance_there, stands}
 use Rattle.module_meanings.proofs.Made.{AreLets, called_slots, event_slots, every_crossed, made_at, module_of, name_of, numbers_at, numbers_in}
 use Rattle.module_meanings.proofs.Made.{reads_by, reads_for, slots_by, variables_at}
-use Rattle.module_meanings.proofs.Made.{slots_from}
+use Rattle.module_meanings.proofs.Made.{instance_slots, judged_within, slots_there}
 use Rattle.module_meanings.proofs.Slots.{given_place, has_slots, names_apart, typs_of}
 
 none : {A X : Type 0} (x : A) → None ≡ Some x → X
@@ -91,8 +93,22 @@ module _ (core : CoreModel) (sized : SizedCore) (m : Module) (low : FlatFrom cor
   abbrev ss : List Sized
   ss = low.table.numbered
 
-  function_there : (k : ℕ) (f : Code) → slice_get low.functions k ≡ Some f → slice_get m.functions k ≡ Some f
-  function_there k f e = ap (λ fs. slice_get fs k) low.all ∙ got_before low.functions (low.ways ++ low.opened) k f e
+  -- the functions of directions stand before those of instances
+  abbrev called_at : ℕ → ℕ
+  called_at p = length low.ways + 2 * p
+
+  abbrev event_at : ℕ → ℕ
+  event_at p = length low.ways + 2 * p + 1
+
+  function_there : (k : ℕ) (f : Code) → slice_get low.functions k ≡ Some f → slice_get m.functions (length low.ways + k) ≡ Some f
+  function_there k f e =
+      ap (λ fs. slice_get fs (length low.ways + k)) low.all ∙ get_past low.ways (low.functions ++ low.opened) k ∙ got_before low.functions low.opened k f e
+
+  behind_one : (n k : ℕ) → n + (k + 1) ≡ n + k + 1
+  behind_one n k = omega arith
+
+  event_there : (p : ℕ) (f : Code) → slice_get low.functions (2 * p + 1) ≡ Some f → slice_get m.functions (event_at p) ≡ Some f
+  event_there p f e = ap (slice_get m.functions) (sym (behind_one (length low.ways) (2 * p))) ∙ function_there (2 * p + 1) f e
 
   -- ---- the instance at a place, as a function of the core
 
@@ -139,25 +155,22 @@ module _ (core : CoreModel) (sized : SizedCore) (m : Module) (low : FlatFrom cor
     in_nodes : nodes_in setting ≡ nodes
     in_nodes = ap joined_nodes at.setting.bodies_are ∙ nodes_is
 
-    -- its trees call such directions alone as it may
+    -- its trees call and ask such directions alone as it may
 
-    signed : (λ d. turned_in at.judge.signs.now.cycle (slice_get at.judge.signs.now.turned.now d)) ≡ cross
-    signed =
+    cycle_is : at.judge.signs.now.cycle ≡ cycle_there core sized m low p
+    cycle_is =
         let q = low.called.each p y e in
-        let cycle : at.judge.signs.now.cycle ≡ cycle_there core sized m low p =
         at.signs.cycle_is ∙ ap (λ (c : Called). c.cycle) (some_same at.called_is q.0 (sym at.enters ∙ q.1)) ∙ q.2.cycle
-        ∙ ap (cycle_by low.called.cycles low.model.turned.now (p - length sized.instances)) (sym e) in
-        λ j d. turned_in (cycle j) (slice_get (at.signs.turned j) d)
+        ∙ ap (cycle_by low.called.cycles low.model.turned.now (p - length sized.instances)) (sym e)
 
-    within : (c : Core) → (typed at.judge c).right ≡ true → crosses_within cross c ≡ true
-    within c h =
-        subst (λ g. crosses_within g c ≡ true) signed
-        (right_crosses at.judge.setting.now.types.now (number_here at.judge) (callees_here at.judge) (tables_here at.judge) (signs_here at.judge) c h)
+    within : (name : Naming) (c : Core) → (node_for setting around name c).ok ≡ true → (typed at.judge c).right ≡ true → crosses_within cross c ≡ true
+    within name c able right =
+        judged_within core sized m low at.judge p cycle_is at.signs.turned name c ((λ j. (node_for (at.judged.0 j) (at.judged.1 j) name c).ok) ∙ able) right
 
-    kit_is : (name : Naming) → kit_for setting name ≡ kit_by core sized m low zs name
+    kit_is : (name : Naming) → kit_for setting name ≡ kit_at core sized m low zs name
     kit_is name =
         kit_same core sized m low low.model low.is y.bodies y.instance.numbers setting at.setting name
-        ∙ (λ j. kit_by core sized m low (numbers_is j) name)
+        ∙ (λ j. kit_at core sized m low (numbers_is j) name)
 
     -- ---- entered with these numbers and arguments
 
@@ -181,7 +194,7 @@ module _ (core : CoreModel) (sized : SizedCore) (m : Module) (low : FlatFrom cor
       node_is : (name : Naming) (c : Core) → crosses_within cross c ≡ true → node_for setting around name c ≡ there name c
       node_is name c h =
           node_same core sized m low low.model low.is y.bodies y.instance.numbers setting at.setting around (typs xs) low.model.openings.now
-          (at.around.instances ∙ ap (λ (z : SizedCore). z.instances) low.is.of_sized) given_is at.around.openings at.around.directions name c
+          (at.around.instances ∙ ap (λ (z : SizedCore). z.instances) low.is.of_sized) given_is at.around.openings (at.around.before ∙ low.before) name c
           ∙ (λ j. node_at core sized m low (every core sized m low low.model.directions.now) (numbers_is j) (typs xs) low.model.openings.now (variables_is j)
           (nodes_is j) name c)
           ∙ crossed_same core sized m low (every core sized m low low.model.directions.now) cross zs (typs xs) low.model.openings.now variables nodes name c
@@ -198,19 +211,24 @@ module _ (core : CoreModel) (sized : SizedCore) (m : Module) (low : FlatFrom cor
           and_parts (all_in (λ c. (typed at.judge c).right) measure) (Here.result_right at.judge f.last (typed at.judge f.body))
           (subst (λ (g : Function). typed_for at.judge g ≡ true) function_is at.made.typed)
 
-      body_within : crosses_within cross f.body ≡ true
-      body_within = within f.body (and_first (typed at.judge f.body).right _ both_typed.1)
-
-      measure_within : (o : Option Core) → all_in (λ c. (typed at.judge c).right) o ≡ true → all_in (crosses_within cross) o ≡ true
-      measure_within None h = refl
-      measure_within (Some c) h = within c h
-
-      measure_cross : all_in (crosses_within cross) measure ≡ true
-      measure_cross = measure_within measure both_typed.0
-
       both_able : (name : Naming)
           → (all_in (λ c. (node_for setting around name c).ok) measure ≡ true) × ((node_for setting around name f.body).ok ≡ true)
       both_able name = and_parts (all_in (λ c. (node_for setting around name c).ok) measure) (node_for setting around name f.body).ok (able name)
+
+      -- whatever the numbering of slots, as this one
+      abbrev some_name : Naming
+      some_name = name_in at.made.called_coding.slots
+
+      body_within : crosses_within cross f.body ≡ true
+      body_within = within some_name f.body (both_able some_name).1 (and_first (typed at.judge f.body).right _ both_typed.1)
+
+      measure_within : (o : Option Core) → all_in (λ c. (node_for setting around some_name c).ok) o ≡ true → all_in (λ c. (typed at.judge c).right) o ≡ true
+          → all_in (crosses_within cross) o ≡ true
+      measure_within None k h = refl
+      measure_within (Some c) k h = within some_name c k h
+
+      measure_cross : all_in (crosses_within cross) measure ≡ true
+      measure_cross = measure_within measure (both_able some_name).0 both_typed.0
 
       body_able : (name : Naming) → (there name f.body).ok ≡ true
       body_able name = ap (λ (n : Node). n.ok) (sym (node_is name f.body body_within)) ∙ (both_able name).1
@@ -232,15 +250,15 @@ module _ (core : CoreModel) (sized : SizedCore) (m : Module) (low : FlatFrom cor
 
       abbrev result_there : Naming → Piece
       result_there name =
-          cast_piece (kit_by core sized m low zs name) (type_in ss) (cases_at f.last 1 nodes) (gives_at nodes (G.Node f.last)) (there name f.body).piece
+          cast_piece (kit_at core sized m low zs name) (type_in ss) (cases_at f.last 1 nodes) (gives_at nodes (G.Node f.last)) (there name f.body).piece
 
       called_is : (name : Naming) → called_for at.walk name f
-          ≡ called_code (kit_by core sized m low zs name) f.place (option_map (λ c. (there name c).piece) measure) (result_there name)
+          ≡ called_code (kit_at core sized m low zs name) f.place (option_map (λ c. (there name c).piece) measure) (result_there name)
       called_is name = λ j. called_code (kit_is name j) f.place (measure_piece name measure measure_cross j)
           (cast_piece (kit_is name j) (type_in (types_is j)) (cases_at f.last 1 (in_nodes j)) (gives_at (in_nodes j) (G.Node f.last))
           (node_is name f.body body_within j).piece)
 
-      event_is : (name : Naming) → event_for at.walk name f ≡ event_code (kit_by core sized m low zs name) f.place (result_there name)
+      event_is : (name : Naming) → event_for at.walk name f ≡ event_code (kit_at core sized m low zs name) f.place (result_there name)
       event_is name = λ j. event_code (kit_is name j) f.place
           (cast_piece (kit_is name j) (type_in (types_is j)) (cases_at f.last 1 (in_nodes j)) (gives_at (in_nodes j) (G.Node f.last))
           (node_is name f.body body_within j).piece)
@@ -254,7 +272,7 @@ module _ (core : CoreModel) (sized : SizedCore) (m : Module) (low : FlatFrom cor
         name = name_of core sized m low q
 
         abbrev kit_here : Kit
-        kit_here = kit_by core sized m low zs name
+        kit_here = kit_at core sized m low zs name
 
         slots_is : slots_of m q ≡ typs_of coding.slots
         slots_is = ap slots_in is_there ∙ is_made.slots
@@ -303,7 +321,8 @@ module _ (core : CoreModel) (sized : SizedCore) (m : Module) (low : FlatFrom cor
           cases = noted_cases_of core.types sized.instances (joined_nodes y.bodies);
           reads = ap (checked core.types) read.cases;
           tells = tells_so;
-          types = basic_of core.types ss m.types (stands core sized m low) name m.exception (size_by core sized m low zs) (basics core sized m low).0
+          types = basic_of core.types ss m.types (stands core sized m low) name m.exception (size_by core sized m low zs)
+              (ways_by core sized m low low.model.directions.now) (basics core sized m low).0
               (basics core sized m low).1 (basics core sized m low).2;
           names = names_stand;
           slots = slots_stand;
@@ -319,27 +338,27 @@ module _ (core : CoreModel) (sized : SizedCore) (m : Module) (low : FlatFrom cor
 
       -- ---- the function that calls enter, and the one that events enter
 
-      pub called_lowered : slots_from core sized m low 0 (2 * p) ≡ at.made.called_coding.slots
-          → Lowered x (2 * p) called_code y.instance.function p f nu ws xs
+      pub called_lowered : slots_there core sized m low (called_at p) ≡ at.made.called_coding.slots
+          → Lowered x (called_at p) called_code y.instance.function p f nu ws xs
       called_lowered h =
-          let named : name_of core sized m low (2 * p) ≡ name_in at.made.called_coding.slots = ap name_in h in
-          let is_there : slice_get m.functions (2 * p) ≡ Some at.called = function_there (2 * p) at.called at.called_there in
-          lowered (2 * p) at.called at.made.called_coding (λ n. called_for at.walk n at.function) at.made.called_is at.made.called_made is_there named
+          let named : name_of core sized m low (called_at p) ≡ name_in at.made.called_coding.slots = ap name_in h in
+          let is_there : slice_get m.functions (called_at p) ≡ Some at.called = function_there (2 * p) at.called at.called_there in
+          lowered (called_at p) at.called at.made.called_coding (λ n. called_for at.walk n at.function) at.made.called_is at.made.called_made is_there named
           called_code
-          (code_is (2 * p) at.called at.made.called_coding (λ n. called_for at.walk n at.function) at.made.called_is at.made.called_made is_there named
+          (code_is (called_at p) at.called at.made.called_coding (λ n. called_for at.walk n at.function) at.made.called_is at.made.called_made is_there named
           ∙ at.made.called_made.put ∙ ap (λ n. called_for at.walk n at.function) (sym named)
-          ∙ ap (called_for at.walk (name_of core sized m low (2 * p))) function_is ∙ called_is (name_of core sized m low (2 * p)))
+          ∙ ap (called_for at.walk (name_of core sized m low (called_at p))) function_is ∙ called_is (name_of core sized m low (called_at p)))
 
-      pub event_lowered : slots_from core sized m low 0 (2 * p + 1) ≡ at.made.event_coding.slots
-          → Lowered x (2 * p + 1) event_shape y.instance.function p f nu ws xs
+      pub event_lowered : slots_there core sized m low (event_at p) ≡ at.made.event_coding.slots
+          → Lowered x (event_at p) event_shape y.instance.function p f nu ws xs
       event_lowered h =
-          let named : name_of core sized m low (2 * p + 1) ≡ name_in at.made.event_coding.slots = ap name_in h in
-          let is_there : slice_get m.functions (2 * p + 1) ≡ Some at.event = function_there (2 * p + 1) at.event at.event_there in
-          lowered (2 * p + 1) at.event at.made.event_coding (λ n. event_for at.walk n at.function) at.made.event_is at.made.event_made is_there named
+          let named : name_of core sized m low (event_at p) ≡ name_in at.made.event_coding.slots = ap name_in h in
+          let is_there : slice_get m.functions (event_at p) ≡ Some at.event = event_there p at.event at.event_there in
+          lowered (event_at p) at.event at.made.event_coding (λ n. event_for at.walk n at.function) at.made.event_is at.made.event_made is_there named
           event_shape
-          (code_is (2 * p + 1) at.event at.made.event_coding (λ n. event_for at.walk n at.function) at.made.event_is at.made.event_made is_there named
+          (code_is (event_at p) at.event at.made.event_coding (λ n. event_for at.walk n at.function) at.made.event_is at.made.event_made is_there named
           ∙ at.made.event_made.put ∙ ap (λ n. event_for at.walk n at.function) (sym named)
-          ∙ ap (event_for at.walk (name_of core sized m low (2 * p + 1))) function_is ∙ event_is (name_of core sized m low (2 * p + 1)))
+          ∙ ap (event_for at.walk (name_of core sized m low (event_at p))) function_is ∙ event_is (name_of core sized m low (event_at p)))
 
   -- ---- all of them
 
@@ -348,27 +367,31 @@ module _ (core : CoreModel) (sized : SizedCore) (m : Module) (low : FlatFrom cor
   awaited_same y awaited p e awaits = some_same (numbers_of y.instance) awaited (sym (ap awaited_in e) ∙ awaits)
 
   pub all_lowered : AllLowered x
-  all_lowered i p f awaited nu ws xs of awaits agree is enters = by (slice_get sized.instances p) refl (called_slots core sized m low p)
+  all_lowered i p f awaited nu ws xs of awaits agree is enters =
+      by (slice_get sized.instances p) refl (instance_slots core sized m low (2 * p) ∙ called_slots core sized m low p)
     where
-      by : (o : Option SizedInstance) (e : slice_get sized.instances p ≡ o) → slots_from core sized m low 0 (2 * p) ≡ slots_by core sized m low false p o e
-          → Lowered x (2 * p) called_code i p f nu ws xs
+      by : (o : Option SizedInstance) (e : slice_get sized.instances p ≡ o) → slots_there core sized m low (called_at p) ≡ slots_by core sized m low false p o e
+          → Lowered x (called_at p) called_code i p f nu ws xs
       by None e h = none awaited (sym (ap awaited_in e) ∙ awaits)
       by (Some y) e h =
           let function : y.instance.function ≡ i = sym (ap function_in e) ∙ of in
-          subst (λ k. Lowered x (2 * p) called_code k p f nu ws xs) function
+          subst (λ k. Lowered x (called_at p) called_code k p f nu ws xs) function
           (called_lowered p y e f (ap (slice_get core.functions) function ∙ is) nu
           (subst (λ a. all_agree a nu ≡ true) (sym (awaited_same y awaited p e awaits)) agree) ws xs
           (ap (λ k. x.s.sizing.enters k p nu ws) function ∙ enters) h)
 
   pub events_lowered : EventsLowered x
-  events_lowered i p f awaited nu ws xs of awaits agree is enters = by (slice_get sized.instances p) refl (event_slots core sized m low p)
+  events_lowered i p f awaited nu ws xs of awaits agree is enters =
+      by (slice_get sized.instances p) refl
+      (ap (slots_there core sized m low) (sym (behind_one (length low.ways) (2 * p))) ∙ instance_slots core sized m low (2 * p + 1)
+      ∙ event_slots core sized m low p)
     where
       by : (o : Option SizedInstance) (e : slice_get sized.instances p ≡ o)
-          → slots_from core sized m low 0 (2 * p + 1) ≡ slots_by core sized m low true p o e → Lowered x (2 * p + 1) event_shape i p f nu ws xs
+          → slots_there core sized m low (event_at p) ≡ slots_by core sized m low true p o e → Lowered x (event_at p) event_shape i p f nu ws xs
       by None e h = none awaited (sym (ap awaited_in e) ∙ awaits)
       by (Some y) e h =
           let function : y.instance.function ≡ i = sym (ap function_in e) ∙ of in
-          subst (λ k. Lowered x (2 * p + 1) event_shape k p f nu ws xs) function
+          subst (λ k. Lowered x (event_at p) event_shape k p f nu ws xs) function
           (event_lowered p y e f (ap (slice_get core.functions) function ∙ is) nu
           (subst (λ a. all_agree a nu ≡ true) (sym (awaited_same y awaited p e awaits)) agree) ws xs
           (ap (λ k. x.s.sizing.enters k p nu ws) function ∙ enters) h)
@@ -377,7 +400,7 @@ module _ (core : CoreModel) (sized : SizedCore) (m : Module) (low : FlatFrom cor
   pub all_tick : AllTick x
   all_tick p i a leads = by (slice_get sized.instances a.place) refl
     where
-      by : (o : Option SizedInstance) → slice_get sized.instances a.place ≡ o → slice_get (code_of m (2 * a.place)) 0 ≡ Some I.Tick
+      by : (o : Option SizedInstance) → slice_get sized.instances a.place ≡ o → slice_get (code_of m (called_at a.place)) 0 ≡ Some I.Tick
       by None e = none a.numbers (sym (ap awaited_in e) ∙ leads.awaits)
       by (Some y) e =
           let at : MadeAt low.model low.functions a.place y = made_at core sized m low a.place y e in

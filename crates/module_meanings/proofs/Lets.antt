@@ -1,8 +1,7 @@
 -- The openings of a module that are worked out one after the other hold the values of the names of top-level lets, or stop as those of the core do.
 use Rattle.std.proofs.Common.{◌≡◌, ◌∙◌, ℕ, zero, suc, ◌+◌, ℤ, Bool, true, false, List, [], ◌∷◌, ◌++◌, length, map, Option, Some, None, refl, sym, ap, subst}
 use Rattle.std.proofs.Common.{arith, append-nil, if◌then◌else◌}
-use Rattle.std.proofs.lemmas.Bool.{and_parts}
-use Rattle.std.specs.Prelude.{◌*◌, ◌&&◌, nat_eq, slice_get, slice_index_or}
+use Rattle.std.specs.Prelude.{◌*◌, is_some, nat_eq, slice_get, slice_index_or}
 use Rattle.sail_base.specs.declared.place.Place.{Place as TextPlace}
 use Rattle.sail_types.specs.declared.numbers.Num.{Num}
 use Rattle.sail_types.specs.declared.values.Value.{Value}
@@ -28,7 +27,6 @@ use Rattle.sail_core.specs.declared.model.OpeningKind.{OpeningKind}
 use Rattle.sail_core.specs.declared.model.OpeningKind.TheVariants as K
 use Rattle.sail_core.specs.declared.patterns.Arm.{Arm}
 use Rattle.sail_core.specs.declared.patterns.Arm.TheVariants as A
-use Rattle.sail_core.specs.declared.patterns.Step.TheVariants as Step_
 use Rattle.sail_core.specs.declared.patterns.Step.{Step}
 use Rattle.size_values.specs.declared.sized.Sized.{Sized}
 use Rattle.checked_meaning.specs.Checked.{checked, checking}
@@ -47,7 +45,7 @@ use Rattle.jib.specs.declared.code.Opening.{Opening as CodeOpening}
 use Rattle.jib_laws.proofs.AlikeLaws.{pure_runs_alike}
 use Rattle.lowered_types.specs.Table.{is_known}
 use Rattle.lowered_slots.specs.Slots.{name_in}
-use Rattle.lowered_pieces.specs.Arms.{arm_fits, arm_hand, arm_lowered, held_at, step_fits, step_lowered, steps_fit, steps_in, steps_lowered}
+use Rattle.lowered_pieces.specs.Arms.{arm_hand, arm_lowered, held_at, steps_in, steps_lowered}
 use Rattle.lowered_pieces.specs.Functions.{event_code}
 use Rattle.lowered_pieces.specs.Lowering.{Node}
 use Rattle.lowered_pieces.specs.Mapped.{ends_with, fixed_end}
@@ -55,7 +53,7 @@ use Rattle.lowered_pieces.specs.Openings.{named_piece}
 use Rattle.lowered_pieces.specs.Places.{Kit, Naming}
 use Rattle.lowered_laws.specs.TablesTelling.{EachAlone}
 use Rattle.lowered_laws.specs.TablesTelling as C
-use Rattle.lowered_steps.specs.Setting.{kit_for, reads_at, size_for}
+use Rattle.lowered_steps.specs.Setting.{crosses_for, kit_for, reads_at, size_for}
 use Rattle.lowered_steps.specs.declared.setting.Reads.{Reads}
 use Rattle.lowered_steps.specs.declared.setting.Setting.{Setting}
 use Rattle.lowered_ends.specs.Around.{node_for}
@@ -73,7 +71,7 @@ use Rattle.module_meanings.proofs.Known.{bodies_there, body_there}
 use Rattle.module_meanings.proofs.Made.{AreLets, behind_both}
 use Rattle.module_meanings.proofs.Openings.{Standing, first_moment, in_one_way, name_came, name_stopped, standing_at, standing_behind, standing_more}
 use Rattle.module_meanings.proofs.Openings.{value_came, value_sits, value_stopped, value_typed}
-use Rattle.module_meanings.proofs.Steps.{FoundIn, Looked, all_found, fails_again, given_same, looked_so, names_of, never_stops}
+use Rattle.module_meanings.proofs.Steps.{FoundIn, Looked, all_found, arm_plain, fails_again, flat_steps, given_same, looked_so, names_of, never_stops}
 
 no : {X : Type 0} → false ≡ true → X
 no e = cc
@@ -321,7 +319,8 @@ module _ (core : CoreModel) (sized : SizedCore) (m : Module) (low : FlatFrom cor
       node_is : node_for setting around name o.value ≡ node_there
       node_is =
           node_same core sized m low low.bare low.bare_is (nodes ∷ []) [] setting v.around.setting around [] names
-          (v.around.instances ∙ ap (λ (c : SizedCore). c.instances) low.bare_is.of_sized) v.around.given v.around.openings v.around.directions name o.value
+          (v.around.instances ∙ ap (λ (c : SizedCore). c.instances) low.bare_is.of_sized) v.around.given v.around.openings
+          (v.around.before_is ∙ low.bare_before) name o.value
 
       kit_is : kit_for setting name ≡ kit_by core sized m low [] name
       kit_is = kit_same core sized m low low.bare low.bare_is (nodes ∷ []) [] setting v.around.setting name
@@ -496,27 +495,6 @@ module _ (core : CoreModel) (sized : SizedCore) (m : Module) (low : FlatFrom cor
   past_given : (n k j : ℕ) → n + 1 + k + j ≡ n + suc (k + j)
   past_given n k j = omega arith
 
-  -- what is lowered where some names are variables' is where none is
-
-  step_plain : (size : Num → Option ℤ) (reads : List ℕ → List Sized) (s : Step) → step_fits size reads s ≡ true → step_lowered size s ≡ true
-  step_plain size reads (Step_.Opens i head k) h = h
-  step_plain size reads (Step_.Names i name) h = refl
-  step_plain size reads (Step_.Sees d k) h = no h
-
-  steps_plain : (size : Num → Option ℤ) (reads : List ℕ → List Sized) (ss : List Step) → steps_fit size reads ss ≡ true → steps_lowered size ss ≡ true
-  steps_plain size reads [] h = refl
-  steps_plain size reads (s ∷ ss) h =
-      let p = and_parts (step_fits size reads s) (steps_fit size reads ss) h in
-      λ i. step_plain size reads s p.0 i && steps_plain size reads ss p.1 i
-
-  arm_plain : (size : Num → Option ℤ) (reads : List ℕ → List Sized) (arm : Arm) → arm_fits size reads arm ≡ true → arm_lowered size arm ≡ true
-  arm_plain size reads (A.Flat n steps) h = steps_plain size reads steps h
-  arm_plain size reads (A.Nested ps) h = no h
-
-  flat_steps : (size : Num → Option ℤ) (arm : Arm) → arm_lowered size arm ≡ true → steps_lowered size (steps_in arm) ≡ true
-  flat_steps size (A.Flat n steps) h = h
-  flat_steps size (A.Nested ps) h = no h
-
   got_front : (fs gs : List Code) (j : ℕ) (f : Code) → slice_get fs j ≡ Some f → slice_get (fs ++ gs) j ≡ Some f
   got_front [] gs j f h = none f h
   got_front (g ∷ fs) gs zero f h = h
@@ -632,7 +610,8 @@ module _ (core : CoreModel) (sized : SizedCore) (m : Module) (low : FlatFrom cor
       arm_is : arm_lowered (size_by core sized m low []) arm ≡ true
       arm_is =
           ap (λ f. arm_lowered f arm) (sym (size_same core sized m low low.bare low.bare_is (nodes ∷ []) [] v.walk.setting.now v.around.setting))
-          ∙ arm_plain (size_for v.walk.setting.now) (reads_at v.walk.setting.now.reads.now) arm taken.lowered
+          ∙ arm_plain (size_for v.walk.setting.now) (crosses_for v.walk.setting.now)
+          (λ d. ap (λ ds. is_some (slice_get ds d)) v.around.setting.directions_are) (reads_at v.walk.setting.now.reads.now) arm taken.lowered
 
       -- of its value
 
@@ -756,13 +735,13 @@ module _ (core : CoreModel) (sized : SizedCore) (m : Module) (low : FlatFrom cor
       (λ j g h. ap (slice_get m.functions) (past_given n (length given) j) ∙ functions (suc (length given + j)) g (get_past given rest j ∙ h)) vs b.opens s)
       (opening_run (sizing.opening i) ms o first_moment) refl
 
-  -- all functions of openings stand behind those of instances and of directions
-  functions_there : (j : ℕ) (f : Code) → slice_get low.opened j ≡ Some f → slice_get m.functions (2 * length sized.instances + length low.ways + j) ≡ Some f
+  -- all functions of openings stand behind those of directions and of instances
+  functions_there : (j : ℕ) (f : Code) → slice_get low.opened j ≡ Some f → slice_get m.functions (length low.ways + 2 * length sized.instances + j) ≡ Some f
   functions_there j f h =
-      ap (λ n. slice_get m.functions (n + length low.ways + j)) (sym (low.instances.many ∙ ap (λ (c : SizedCore). 2 * length c.instances) low.is.of_sized))
-      ∙ ap (slice_get m.functions) (behind_both (length low.functions) (length low.ways) j)
-      ∙ ap (λ fs. slice_get fs (length low.functions + (length low.ways + j))) low.all
-      ∙ get_past low.functions (low.ways ++ low.opened) (length low.ways + j) ∙ get_past low.ways low.opened j ∙ h
+      ap (λ n. slice_get m.functions (length low.ways + n + j)) (sym (low.instances.many ∙ ap (λ (c : SizedCore). 2 * length c.instances) low.is.of_sized))
+      ∙ ap (slice_get m.functions) (behind_both (length low.ways) (length low.functions) j)
+      ∙ ap (λ fs. slice_get fs (length low.ways + (length low.functions + j))) low.all
+      ∙ get_past low.ways (low.functions ++ low.opened) (length low.functions + j) ∙ get_past low.functions low.opened j ∙ h
 
   from_first : (j : ℕ) → 0 + j ≡ j
   from_first j = omega arith
@@ -772,7 +751,7 @@ module _ (core : CoreModel) (sized : SizedCore) (m : Module) (low : FlatFrom cor
       → Came low.model.openings.now vs (initial m.openings es s) (openings_of sizing core s)
   all_follow es vs opens s =
       subst (λ os. Came low.model.openings.now vs (initial os es s) (openings_of sizing core s)) (sym low.opens)
-      (opens_follow low.openings (2 * length sized.instances + length low.ways) [] [] refl tt (λ j o k. ap (slice_get core.openings) (from_first j) ∙ k)
+      (opens_follow low.openings (length low.ways + 2 * length sized.instances) [] [] refl tt (λ j o k. ap (slice_get core.openings) (from_first j) ∙ k)
       functions_there vs (subst (λ os. Opens m core.types st os [] es vs) low.opens opens) s)
 
   -- the openings of the module, worked out over whatever state, have the values of the names of lets

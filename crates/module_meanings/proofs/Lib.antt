@@ -10,5 +10,6 @@ pub mod Lets
 pub mod Flat
 pub mod Whole
 pub mod Texts
+pub mod TypedEnds
 pub mod Crossed
 pub mod Ways

@@ -1,10 +1,12 @@
 -- The module of a core, as it stands to the meaning of the core in which cases go by noted numbers.
 use Rattle.std.proofs.Common.{◌≡◌, ◌∙◌, ℕ, zero, suc, ◌+◌, ◌-◌, ℤ, Bool, true, false, List, [], ◌∷◌, length, Option, Some, None, refl, ap, sym, arith}
-use Rattle.std.proofs.Common.{◌⊎◌, inl, inr}
-use Rattle.std.specs.Prelude.{◌*◌, ◌/◌, is_some, slice_get, slice_index_or}
+use Rattle.std.specs.Prelude.{◌*◌, ◌/◌, if◌then◌else◌, is_some, nat_lt, slice_get, slice_index_or}
+use Rattle.std.proofs.lemmas.Bool.{and_parts}
+use Rattle.std.proofs.lemmas.Bool.Decides.{nat_tests}
 use Rattle.sail_types.specs.declared.values.Value.{Value}
 use Rattle.sail_types.specs.declared.values.Value.TheVariants as V
 use Rattle.sail_core.specs.Start.{lets_of, setting_of}
+use Rattle.sail_core.specs.declared.tree.Core.{Core}
 use Rattle.sail_core.specs.declared.model.CoreModel.{CoreModel}
 use Rattle.sail_core.specs.declared.model.Direction.{Direction}
 use Rattle.sail_core.specs.declared.model.Function.{Function}
@@ -13,6 +15,7 @@ use Rattle.sized_nodes.specs.declared.trees.NodeSizes.{NodeSizes}
 use Rattle.sized_nodes.specs.declared.trees.SizedCore.{SizedCore}
 use Rattle.sized_nodes.specs.declared.trees.SizedInstance.{SizedInstance}
 use Rattle.sized_meanings.specs.Sized.{noted_checks_of}
+use Rattle.jib.specs.declared.code.Function.{Function as Code}
 use Rattle.jib.specs.declared.code.Module.{Module}
 use Rattle.lowered_types.specs.Table.{type_in}
 use Rattle.lowered_types.proofs.Standing.{types_have}
@@ -20,16 +23,21 @@ use Rattle.lowered_slots.specs.Slots.{name_in}
 use Rattle.lowered_slots.specs.declared.slots.Slot.{Slot}
 use Rattle.lowered_pieces.specs.Nodes.{awaited_in, function_in}
 use Rattle.lowered_pieces.specs.Places.{Naming}
-use Rattle.lowered_ends.specs.Around.{answer_in, called_number, direction_in}
+use Rattle.lowered_ends.specs.Around.{answer_in, called_number, node_for}
+use Rattle.lowered_steps.specs.Setting.{direction_in, kit_for, ways_for}
 use Rattle.lowered_laws.specs.Modules.{Made}
+use Rattle.lowered_laws.specs.Crossings.{crosses_within}
+use Rattle.lowered_typed.specs.Judging.{callees_here, is_asked, number_here, signs_here, tables_here, turned_in, typed}
+use Rattle.lowered_typed.specs.declared.signs.Judge.{Judge}
 use Rattle.jib_lower.specs.Instances.{MadeAt}
 use Rattle.jib_lower.specs.Lowered.{FlatFrom}
 use Rattle.jib_lower.specs.Reads.{function_reads, tree_reads}
 use Rattle.lowered_steps.specs.declared.setting.Reads.{Reads}
-use Rattle.jib_lower.specs.Entering.{mapped_by}
+use Rattle.jib_lower.specs.Entering.{mapped_by, place_in}
 use Rattle.module_cycles.specs.Laws.{cycle_there, may_cross, nodes_of}
-use Rattle.module_cycles.proofs.Models.{back, none_past, turned_there}
+use Rattle.module_cycles.proofs.Models.{back, entered_at, in_order, turned_there}
 use Rattle.module_cycles.proofs.Ways.{WayThere, way_slots, way_there}
+use Rattle.module_meanings.proofs.Crossed.{crosses_wider, right_crosses}
 use Rattle.module_meanings.proofs.Around.{every, size_by, tables_by, truth_by}
 use Rattle.module_meanings.proofs.Known.{knows, stands}
 
@@ -45,20 +53,15 @@ module _ (core : CoreModel) (sized : SizedCore) (m : Module) (low : FlatFrom cor
   pub made_at : (p : ℕ) (y : SizedInstance) → slice_get sized.instances p ≡ Some y → MadeAt low.model low.functions p y
   made_at p y e = low.instances.each p y (ap (λ (z : SizedCore). slice_get z.instances p) low.is.of_sized ∙ e)
 
-  -- and behind them of those of directions of mappings
-  abbrev pub past : Bool → ℕ → ℕ
-  past false d = 2 * d
-  past true d = 2 * d + 1
-
   abbrev pub slots_by : Bool → (p : ℕ) (o : Option SizedInstance) → slice_get sized.instances p ≡ o → List Slot
-  slots_by b p None e = way_slots low.directions (past b (p - length sized.instances))
+  slots_by b p None e = []
   slots_by false p (Some y) e = (made_at p y e).made.called_coding.slots
   slots_by true p (Some y) e = (made_at p y e).made.event_coding.slots
 
   abbrev pub slots_at : Bool → ℕ → List Slot
   slots_at b p = slots_by b p (slice_get sized.instances p) refl
 
-  -- by the numbers of functions, from those of an instance on
+  -- in their order, from those of an instance on
   abbrev pub slots_from : ℕ → ℕ → List Slot
   slots_from p zero = slots_at false p
   slots_from p (suc zero) = slots_at true p
@@ -99,69 +102,73 @@ module _ (core : CoreModel) (sized : SizedCore) (m : Module) (low : FlatFrom cor
   pub event_slots : (p : ℕ) → slots_from 0 (2 * p + 1) ≡ slots_at true p
   event_slots p = event_from 0 p ∙ ap (slots_at true) (begun p)
 
-  -- ---- those of directions
+  -- ---- by the numbers of functions: behind those of directions
 
-  slots_past : (b : Bool) (d : ℕ) → slots_at b (length sized.instances + d) ≡ way_slots low.directions (past b d)
-  slots_past b d = by (slice_get sized.instances (length sized.instances + d)) refl (none_past sized.instances d)
+  abbrev pub many_ways : ℕ
+  many_ways = length low.ways
+
+  abbrev pub slots_there : ℕ → List Slot
+  slots_there q = if nat_lt q many_ways then way_slots low.directions q else slots_from 0 (q - many_ways)
+
+  pub instance_slots : (k : ℕ) → slots_there (many_ways + k) ≡ slots_from 0 k
+  instance_slots k =
+      ap (λ b. if b then way_slots low.directions (many_ways + k) else slots_from 0 (many_ways + k - many_ways)) (past_all many_ways k)
+      ∙ ap (slots_from 0) (back many_ways k)
     where
-      by : (o : Option SizedInstance) (e : slice_get sized.instances (length sized.instances + d) ≡ o)
-          → slice_get sized.instances (length sized.instances + d) ≡ None
-          → slots_by b (length sized.instances + d) o e ≡ way_slots low.directions (past b d)
-      by None e h = ap (λ k. way_slots low.directions (past b k)) (back (length sized.instances) d)
-      by (Some y) e h = none y (sym h ∙ e)
+      past_all : (n k : ℕ) → nat_lt (n + k) n ≡ false
+      past_all n k = grind (arith, nat_tests)
 
-  halves : (k : ℕ) → (d : ℕ) × ((k ≡ 2 * d) ⊎ (k ≡ 2 * d + 1))
-  halves zero = (0, inl refl)
-  halves (suc k) =
-      let r = halves k in
-      elim r.1 [
-        | inl e ↦ (r.0, inr (odd k r.0 e))
-        | inr e ↦ (suc r.0, inl (even k r.0 e))
-      ]
+  -- the k-th function is that of a direction
+  pub directed_slots : (k : ℕ) (f : Code) → slice_get low.ways k ≡ Some f → slots_there k ≡ way_slots low.directions k
+  directed_slots k f e =
+      ap (λ b. if b then way_slots low.directions k else slots_from 0 (k - many_ways)) (within low.ways k f e)
     where
-      odd : (k d : ℕ) → k ≡ 2 * d → suc k ≡ 2 * d + 1
-      odd k d e = omega (arith, e)
+      above : (k n : ℕ) → nat_lt k n ≡ true → nat_lt (suc k) (suc n) ≡ true
+      above k n h = grind (arith, nat_tests)
 
-      even : (k d : ℕ) → k ≡ 2 * d + 1 → suc k ≡ 2 * suc d
-      even k d e = omega (arith, e)
+      first : (n : ℕ) → nat_lt 0 (suc n) ≡ true
+      first n = grind (arith, nat_tests)
 
-  -- of the k-th function behind those of instances
-  pub directed_slots : (k : ℕ) → slots_from 0 (2 * length sized.instances + k) ≡ way_slots low.directions k
-  directed_slots k =
-      let n : ℕ = length sized.instances in
-      let r = halves k in
-      elim r.1 [
-        | inl e ↦ ap (slots_from 0) (twice n k r.0 e) ∙ called_slots (n + r.0) ∙ slots_past false r.0 ∙ ap (way_slots low.directions) (sym e)
-        | inr e ↦ ap (slots_from 0) (twice_more n k r.0 e) ∙ event_slots (n + r.0) ∙ slots_past true r.0 ∙ ap (way_slots low.directions) (sym e)
-      ]
-    where
-      twice : (n k d : ℕ) → k ≡ 2 * d → 2 * n + k ≡ 2 * (n + d)
-      twice n k d e = omega (arith, e)
-
-      twice_more : (n k d : ℕ) → k ≡ 2 * d + 1 → 2 * n + k ≡ 2 * (n + d) + 1
-      twice_more n k d e = omega (arith, e)
+      within : (fs : List Code) (k : ℕ) (f : Code) → slice_get fs k ≡ Some f → nat_lt k (length fs) ≡ true
+      within [] k f e = none f e
+      within (g ∷ fs) zero f e = first (length fs)
+      within (g ∷ fs) (suc k) f e = above k (length fs) (within fs k f e)
 
   abbrev pub name_of : ℕ → Naming
-  name_of q = name_in (slots_from 0 q)
+  name_of q = name_in (slots_there q)
 
-  -- ---- a direction that may be called is made
+  -- ---- a direction that may be called or asked is made
 
   pub crossed : (p d : ℕ) → may_cross core sized m low p d ≡ true → (c : ℕ) × (slice_get low.model.turned.now d ≡ Some (Some c))
   crossed p d h =
       let r = turned_there (cycle_there core sized m low p) (slice_get low.model.turned.now d) h in
       (r.0, r.1)
 
-  pub way_of : (d c : ℕ) → slice_get low.model.turned.now d ≡ Some (Some c) → WayThere low.directions core.types d c
-  way_of d c e = way_there low.directions core.types d c e
+  pub way_of : (d c : ℕ) → slice_get low.model.turned.now d ≡ Some (Some c) → WayThere low.directions d
+  way_of d c e = way_there low.directions d (in_order core sized m low d c e)
 
   pub entered_there : (d c : ℕ) (e : slice_get low.model.turned.now d ≡ Some (Some c))
-      → slice_get low.model.directions.now d ≡ Some (mapped_by core.types (2 * length sized.instances + (way_of d c e).at) (way_of d c e).direction)
-  entered_there d c e = ap (λ ms. slice_get ms d) low.entered ∙ (way_of d c e).entered
+      → slice_get low.model.directions.now d ≡ Some (mapped_by core.types (place_in low.model.order.now d) (way_of d c e).at.direction)
+  entered_there d c e = entered_at core sized m low d (way_of d c e)
 
   pub every_crossed : (p d : ℕ) → may_cross core sized m low p d ≡ true → every core sized m low low.model.directions.now d ≡ true
   every_crossed p d h =
       let r = crossed p d h in
       ap is_some (entered_there d r.0 r.1)
+
+  -- what is lowered and has its types asks and calls such directions alone, where its cycle is that of what stands at a place
+  pub judged_within : (judge : Judge) (p : ℕ) → judge.signs.now.cycle ≡ cycle_there core sized m low p → judge.signs.now.turned.now ≡ low.model.turned.now
+      → (name : Naming) (c : Core) → (node_for judge.setting.now judge.around.now name c).ok ≡ true → (typed judge c).right ≡ true
+      → crosses_within (may_cross core sized m low p) c ≡ true
+  judged_within judge p cycle turned name c able right =
+      crosses_wider (is_asked judge.setting.now judge.signs.now) (may_cross core sized m low p)
+      (λ d h.
+      (λ j. turned_in (sym cycle j) (slice_get (sym turned j) d))
+      ∙ (and_parts (turned_in judge.signs.now.cycle (slice_get judge.signs.now.turned.now d))
+      (nat_lt (ways_for judge.setting.now d).function judge.signs.now.below) h).0)
+      c
+      (right_crosses judge.setting.now.types.now (kit_for judge.setting.now name) (number_here judge) (callees_here judge) (tables_here judge)
+      (signs_here judge) c able right)
 
   -- ---- by the places of instances
 
@@ -203,8 +210,8 @@ module _ (core : CoreModel) (sized : SizedCore) (m : Module) (low : FlatFrom cor
     table = core.types;
     number = type_in low.table.numbered;
     exception = m.exception;
-    function = called_number;
-    event = λ p. 2 * p + 1;
+    function = called_number (length low.ways);
+    event = λ p. called_number (length low.ways) p + 1;
     answer = λ p. answer_in (slice_get sized.instances p);
     tables = λ p. tables_by core sized m low (variables_at p) (nodes_of core sized m low p);
     name = name_of;

@@ -67,7 +67,7 @@ use Rattle.lowered_laws.proofs.KnownTruths.{truths_known}
 use Rattle.jib_lower.specs.Lowered.{FlatFrom}
 use Rattle.jib_lower.proofs.Basics.{basic_of, index_there}
 use Rattle.jib_lower.proofs.Placing.{basics}
-use Rattle.module_meanings.proofs.Around.{callees_by, kit_by, node_by, size_by, tables_by, tells_read}
+use Rattle.module_meanings.proofs.Around.{callees_by, kit_by, no_directions, node_by, size_by, tables_by, tells_read, ways_by}
 use Rattle.module_meanings.proofs.Known.{knows, stands}
 use Rattle.module_meanings.proofs.Slots.{has_slots, names_apart, typs_of}
 
@@ -149,13 +149,14 @@ module _ (core : CoreModel) (sized : SizedCore) (m : Module) (low : FlatFrom cor
         number = type_in ss;
         exception = m.exception;
         size = size_by core sized m low [];
+        ways = ways_by core sized m low no_directions;
         tables = tables_by core sized m low told nodes;
         knows = knows core sized m low;
         had = λ v t h k. types_have core.types ss m.types (stands core sized m low) v t h k;
         cases = cases;
         tells = tells_read core sized m low told nodes cases (noted_tell core.types (is_known ss) sized.instances nodes alone in_nodes);
         types = basic_of core.types ss m.types (stands core sized m low) (name_in coding.slots) m.exception (size_by core sized m low [])
-            (basics core sized m low).0 (basics core sized m low).1 (basics core sized m low).2;
+            (ways_by core sized m low no_directions) (basics core sized m low).0 (basics core sized m low).1 (basics core sized m low).2;
         names = subst (Names (kit_by core sized m low [] (name_in coding.slots))) (sym slots_is)
             (names_apart setting [] coding first (kit_by core sized m low [] (name_in coding.slots)) refl raised);
         slots = subst (λ ts. HasSlots ts (code_of m q)) (sym slots_is)
@@ -177,6 +178,7 @@ module _ (core : CoreModel) (sized : SizedCore) (m : Module) (low : FlatFrom cor
       calls_ok r = record {
         tells = λ place f a us now leads less. tt;
         crosses = λ place d v now c has less. no c;
+        sees = λ place d x now c less. no c;
       }
 
       around : (r : Outcome) → Around (at_work r) callees w
@@ -251,7 +253,7 @@ module _ (core : CoreModel) (sized : SizedCore) (m : Module) (low : FlatFrom cor
       module _ (place : TextPlace) (k : ℕ) (whole typ : Sized) (steps : List Step) (text : List ℕ) (v : Value)
           (is_code : coding.code ≡ event_code (kit_by core sized m low [] (name_in coding.slots)) place
           (named_piece core.types (kit_by core sized m low [] (name_in coding.slots)) [] place k whole (A.Flat 0 steps) text typ))
-          (lowered : steps_fit (size_by core sized m low []) (reads_at told) steps ≡ true)
+          (lowered : steps_fit (size_by core sized m low []) (λ d. false) (reads_at told) steps ≡ true)
           (is_typ : held_typ (name_hand (at_work (Gives v (bare first_moment))) steps whole).names
           (name_hand (at_work (Gives v (bare first_moment))) steps whole).named text ≡ Some typ)
           (given : slice_index_or ls k V.Unit ≡ v) (had : (has_sizes core.types v whole ≡ true) × (is_known ss whole ≡ true)) where

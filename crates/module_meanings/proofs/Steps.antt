@@ -1,12 +1,15 @@
 -- What the steps of a pattern find where nothing of the model is called: the same at every moment, a name for each step that names, in order.
-use Rattle.std.proofs.Common.{◌≡◌, ◌∙◌, ℕ, Bool, true, false, not, List, [], ◌∷◌, ◌++◌, map, Option, Some, None, refl, sym, ap, append-nil}
-use Rattle.std.specs.Prelude.{◌||◌, slice_get, if◌then◌else◌}
+use Rattle.std.proofs.Common.{◌≡◌, ◌∙◌, ℕ, ℤ, Bool, true, false, not, List, [], ◌∷◌, ◌++◌, map, Option, Some, None, refl, sym, ap, append-nil}
+use Rattle.std.specs.Prelude.{◌||◌, ◌&&◌, slice_get, if◌then◌else◌}
 use Rattle.std.specs.Str.{bytes_eq}
 use Rattle.std.proofs.lemmas.Slice.Eq.{bytes_eq-Decides}
 use Rattle.std.proofs.lemmas.List.{map-append}
 use Rattle.std.proofs.lemmas.Bool.{and_parts}
+use Rattle.sail_types.specs.declared.numbers.Num.{Num}
 use Rattle.sail_types.specs.declared.values.Value.{Value}
 use Rattle.model_state.specs.declared.cause.Cause.{Cause}
+use Rattle.sail_core.specs.declared.patterns.Arm.{Arm}
+use Rattle.sail_core.specs.declared.patterns.Arm.TheVariants as A
 use Rattle.sail_core.specs.declared.patterns.Step.{Step}
 use Rattle.sail_core.specs.declared.patterns.Step.TheVariants as S
 use Rattle.sail_core.specs.Making.{Making, World}
@@ -16,6 +19,8 @@ use Rattle.sail_core.specs.Run as R
 use Rattle.sail_core.specs.Run.{Local, Now, Run, gives, goes_on, held_in, local, needs, ◌then◌}
 use Rattle.sail_core.specs.Start.{opening_world}
 use Rattle.checked_meaning.specs.Items.{Item}
+use Rattle.size_values.specs.declared.sized.Sized.{Sized}
+use Rattle.lowered_pieces.specs.Arms.{arm_fits, arm_lowered, step_fits, step_lowered, steps_fit, steps_in, steps_lowered}
 use Rattle.jib_lower.specs.Lowered.{is_among, names_differ, names_in}
 
 no : {X : Type 0} → false ≡ true → X
@@ -242,3 +247,25 @@ all_found (l ∷ ls) h =
       ap (λ b. if b then Some l.held else held_in l.name ls) ((bytes_eq-Decides l.name l.name).1 refl),
       found_behind l ls ls (is_not (is_among l.name (names_of ls)) both.0) (all_found ls both.1),
     )
+
+-- ---- what is lowered where no direction is there, and some names are variables', is where none is
+
+module _ (size : Num → Option ℤ) (crosses : ℕ → Bool) (bare : (d : ℕ) → crosses d ≡ false) (reads : List ℕ → List Sized) where
+  step_plain : (s : Step) → step_fits size crosses reads s ≡ true → step_lowered size s ≡ true
+  step_plain (S.Opens i head k) h = h
+  step_plain (S.Names i name) h = refl
+  step_plain (S.Sees i d) h = sym (bare d) ∙ h
+
+  steps_plain : (ss : List Step) → steps_fit size crosses reads ss ≡ true → steps_lowered size ss ≡ true
+  steps_plain [] h = refl
+  steps_plain (s ∷ ss) h =
+      let p = and_parts (step_fits size crosses reads s) (steps_fit size crosses reads ss) h in
+      λ i. step_plain s p.0 i && steps_plain ss p.1 i
+
+  pub arm_plain : (arm : Arm) → arm_fits size crosses reads arm ≡ true → arm_lowered size arm ≡ true
+  arm_plain (A.Flat n steps) h = steps_plain steps h
+  arm_plain (A.Nested ps) h = no h
+
+pub flat_steps : (size : Num → Option ℤ) (arm : Arm) → arm_lowered size arm ≡ true → steps_lowered size (steps_in arm) ≡ true
+flat_steps size (A.Flat n steps) h = h
+flat_steps size (A.Nested ps) h = no h

@@ -1,5 +1,5 @@
 -- The machine of the module of an accepted text does as the text means.
-use Rattle.std.proofs.Common.{◌≡◌, ◌∙◌, ◌+◌, ◌*◌, ℕ, true, false, List, [], ◌∷◌, refl, sym, ap, subst}
+use Rattle.std.proofs.Common.{◌≡◌, ◌∙◌, ◌+◌, ◌*◌, ℕ, true, false, List, [], ◌∷◌, length, refl, sym, ap, subst, arith}
 use Rattle.std.specs.Prelude.{Option, Some, None, pos}
 use Rattle.sail_base.specs.Bits.{bits_of}
 use Rattle.sail_types.specs.declared.table.Types.{Types}
@@ -77,13 +77,20 @@ module _ (core : CoreModel) (sized : SizedCore) (m : Module) (es : List Ended) (
 
 -- ---- a call of the module at work is what the machine comes to
 
-called_there : (core : CoreModel) (sized : SizedCore) (m : Module) (lets : List Value) (hart : ℕ) (k : IsMade core sized m lets hart) (p : ℕ)
-    (ws : List Value) (state : RunState) (ran : Ran) → Calls k.made.m core.types k.made.lets hart event_ticks (k.made.event p) ws state ran
-    → Calls m core.types lets hart event_ticks (2 * p + 1) ws state ran
-called_there core sized m lets hart k p ws state ran c =
-    subst (λ q. Calls m core.types lets hart event_ticks q ws state ran) (k.event_is p)
+called_there : (core : CoreModel) (sized : SizedCore) (m : Module) (before : ℕ) (lets : List Value) (hart : ℕ) (k : IsMade core sized m before lets hart)
+    (p q : ℕ) → before + 2 * p + 1 ≡ q → (ws : List Value) (state : RunState) (ran : Ran)
+    → Calls k.made.m core.types k.made.lets hart event_ticks (k.made.event p) ws state ran → Calls m core.types lets hart event_ticks q ws state ran
+called_there core sized m before lets hart k p q e ws state ran c =
+    subst (λ f. Calls m core.types lets hart event_ticks f ws state ran) (k.event_is p ∙ e)
     (subst (λ ls. Calls m core.types ls hart event_ticks (k.made.event p) ws state ran) k.lets_are
     (subst (λ n. Calls n core.types k.made.lets hart event_ticks (k.made.event p) ws state ran) k.module_is c))
+
+-- the functions that the events enter of the first two instances
+first_event : (before : ℕ) → before + 2 * 0 + 1 ≡ before + 1
+first_event before = omega arith
+
+second_event : (before : ℕ) → before + 2 * 1 + 1 ≡ before + 3
+second_event before = omega arith
 
 module _ (m : Module) (v : valid m ≡ true) (types : Types) (lets : List Value) (hart f : ℕ) (vs : List Value) (state : RunState) where
   -- each call ends in one way
@@ -117,6 +124,7 @@ machines_mean made_so start_so mean go alike source texts made accepted cycle si
     let text : List Def = gathered accepted.definitions in
     let core : CoreModel = core_in accepted cycle in
     let k : Checks = noted_checks_of core sized in
+    let before : ℕ = length low.flat.ways in
     let whole : IsWhole false core sized = record { found = found; whole = low.tabled } in
     let apart : NumbersApart core = texts_apart text cycle in
     let goes = go false texts made accepted cycle sized held whole past count some few in
@@ -134,23 +142,24 @@ machines_mean made_so start_so mean go alike source texts made accepted cycle si
       events = λ first fits ended hart less state fit.
           let end : AllEnd core k = all_end core sized m es first _ (goes.1 first fits) (starts first) ended in
           let parts = goes.0 end in
-          let is : IsMade core sized m lets hart = made_so core sized m apart found low options over es lets opens hart in
+          let is : IsMade core sized m before lets hart = made_so core sized m apart found low options over es lets opens hart in
           let both = mean texts made accepted cycle sized held whole past count some few end hart less is.made is.is state fit in (
             (λ entry.
                 let s = both.1 entry in
                 let ws : List Value = V.Integer (pos hart) ∷ V.Bits (bits_of 64 entry) ∷ [] in
                 comes_so ((text_parts (meant_of text cycle)).reset hart entry state) (reset_ran (checking k) core hart entry state)
-                (reset_ran plain core hart entry state) s.ran (call_ran m v core.types lets hart 1 ws state)
+                (reset_ran plain core hart entry state) s.ran (call_ran m v core.types lets hart (before + 1) ws state)
                 (λ ran. IsFit core past count ran.state) (same.reset hart entry state fit) (parts.reset hart entry less state fit)
                 ((alike false core sized state).1 hart entry) s.plainly
-                (call_is m v core.types lets hart 1 ws state s.ran (called_there core sized m lets hart is 0 ws state s.ran s.lowered))),
+                (call_is m v core.types lets hart (before + 1) ws state s.ran
+                (called_there core sized m before lets hart is 0 (before + 1) (first_event before) ws state s.ran s.lowered))),
             (let ws : List Value = V.Unit ∷ [] in
                 comes_so ((text_parts (meant_of text cycle)).step hart state) (step_ran (checking k) core hart state) (step_ran plain core hart state)
-                both.0.ran (call_ran m v core.types lets hart 3 ws state)
+                both.0.ran (call_ran m v core.types lets hart (before + 3) ws state)
                 (λ ran. IsFit core past count (after_step hart ran.ended ran.state)) (same.step hart state fit) (parts.step hart less state fit)
                 ((alike false core sized state).2 hart) both.0.plainly
-                (call_is m v core.types lets hart 3 ws state both.0.ran
-                (called_there core sized m lets hart is 1 ws state both.0.ran both.0.lowered))),
+                (call_is m v core.types lets hart (before + 3) ws state both.0.ran
+                (called_there core sized m before lets hart is 1 (before + 3) (second_event before) ws state both.0.ran both.0.lowered))),
           );
     }
 

@@ -1,14 +1,14 @@
--- The functions of directions of mappings are the code of the directions: each that is called may be entered.
+-- The functions of directions of mappings are the code of the directions: each that is called or asked may be entered.
 use Rattle.std.proofs.Common.{◌≡◌, ◌∙◌, ℕ, zero, suc, ◌+◌, ◌-◌, ℤ, Bool, true, false, List, [], ◌∷◌, ◌++◌, length, map, Option, Some, None, refl, sym, ap}
 use Rattle.std.proofs.Common.{append-nil, arith, subst}
-use Rattle.std.specs.Prelude.{◌*◌, ◌/◌, ◌&&◌, option_map, slice_get}
+use Rattle.std.specs.Prelude.{◌/◌, ◌&&◌, option_map, slice_get}
 use Rattle.std.proofs.lemmas.Bool.{and_parts}
 use Rattle.sail_types.specs.Places.{only}
 use Rattle.sail_types.specs.declared.table.Types.{Types}
 use Rattle.sail_types.specs.declared.values.Value.{Value}
 use Rattle.sail_core.specs.Making.{Making, World}
 use Rattle.sail_core.specs.Meaning.{kind_meaning, meaning, option_typ, optional}
-use Rattle.sail_core.specs.Program.{Measures, calls, world_of}
+use Rattle.sail_core.specs.Program.{Measures, asking, calls, ways}
 use Rattle.sail_core.specs.Run.{Run}
 use Rattle.sail_core.specs.declared.model.CoreModel.{CoreModel}
 use Rattle.sail_core.specs.declared.model.Direction.{Direction}
@@ -26,21 +26,21 @@ use Rattle.lowered_types.specs.Table.{is_known, type_in}
 use Rattle.lowered_slots.specs.Slots.{name_in}
 use Rattle.lowered_slots.specs.declared.slots.Place.TheVariants.{Given}
 use Rattle.lowered_pieces.specs.declared.coding.Coding.{Coding}
-use Rattle.lowered_pieces.specs.Forms.{Mapped}
 use Rattle.lowered_pieces.specs.Functions.{direction_code}
 use Rattle.lowered_pieces.specs.Lowering.{Node}
 use Rattle.lowered_pieces.specs.Mapped.{ends_with, fixed_end, optional_piece}
-use Rattle.lowered_pieces.specs.Places.{HasSlots, Kit, Names, Naming}
-use Rattle.lowered_steps.specs.Setting.{kit_for}
+use Rattle.lowered_pieces.specs.Places.{HasSlots, Kit, Mapped, Names, Naming}
+use Rattle.lowered_steps.specs.Setting.{direction_in, kit_for, mapped_of}
 use Rattle.lowered_steps.specs.declared.setting.Reads.{Reads}
 use Rattle.lowered_steps.specs.declared.setting.Setting.{Setting}
-use Rattle.lowered_ends.specs.Around.{direction_in, mapped_of, node_for}
+use Rattle.lowered_ends.specs.Around.{node_for}
 use Rattle.lowered_ends.specs.declared.around.Around.{Around}
-use Rattle.lowered_ends.specs.declared.around.Mapped.{Mapped as Entered}
+use Rattle.lowered_steps.specs.declared.setting.Mapped.{Mapped as Entered}
 use Rattle.lowered_functions.specs.Made.{mapping_for}
-use Rattle.lowered_typed.specs.Judging.{callees_here, number_here, signs_here, tables_here, turned_in}
+use Rattle.lowered_typed.specs.Judging.{callees_here, number_here, signs_here, tables_here, typed}
+use Rattle.lowered_typed.specs.declared.signs.Judge.{Judge}
 use Rattle.lowered_laws.specs.Crossings.{crosses_within}
-use Rattle.lowered_laws.specs.Modules.{AllTurned, Made, Turned}
+use Rattle.lowered_laws.specs.Modules.{AllTaken, AllTurned, Made, Turned}
 use Rattle.lowered_laws.specs.Returning.{QuietWorld, returns_nothing}
 use Rattle.lowered_laws.specs.TablesTelling.{EachAlone}
 use Rattle.lowered_laws.specs.TablesTelling as C
@@ -50,12 +50,12 @@ use Rattle.lowered_laws.proofs.KnownTruths.{truths_known}
 use Rattle.lowered_laws.proofs.QuietKinds.{core_q}
 use Rattle.lowered_laws.proofs.QuietWorlds.{worlds_stay}
 use Rattle.lowered_laws.proofs.TablesTelling.{noted_tell}
-use Rattle.jib_lower.specs.Directions.{WayTaken}
-use Rattle.jib_lower.specs.Entering.{mapped_by, option_in, payload_in}
+use Rattle.jib_lower.specs.Directions.{WayMade, WayTaken}
+use Rattle.jib_lower.specs.Entering.{mapped_by, option_in, payload_in, place_in}
 use Rattle.jib_lower.specs.Lowered.{FlatFrom}
 use Rattle.jib_lower.specs.Reads.{tree_reads}
 use Rattle.jib_lower.specs.Types.{all_in_nodes, all_in_ways, in_mapping}
-use Rattle.jib_lower.proofs.Basics.{basic_of, get_past, got_before}
+use Rattle.jib_lower.proofs.Basics.{basic_of, got_before}
 use Rattle.jib_lower.proofs.Placing.{basics, exception_here}
 use Rattle.module_cycles.specs.Laws.{cycle_by, cycle_there, may_cross, nodes_by, nodes_of, way_cycle, way_nodes}
 use Rattle.module_cycles.proofs.Models.{back, none_past}
@@ -63,16 +63,20 @@ use Rattle.module_cycles.proofs.Ways.{WayThere}
 use Rattle.safe_models.specs.Options.{OptionFirst}
 use Rattle.safe_models.proofs.Options.{none_has, somes}
 use Rattle.module_meanings.proofs.Alone.{AllAlone}
-use Rattle.module_meanings.proofs.Around.{crossed_same, every, kit_by, kit_same, node_at, node_same, numbers_same, size_by, tables_by, tells_read, truth_by}
-use Rattle.module_meanings.proofs.Around.{types_same}
-use Rattle.module_meanings.proofs.Crossed.{crosses_wider, part_stays, part_within, right_crosses}
+use Rattle.module_meanings.proofs.Around.{crossed_same, every, kit_at, kit_same, node_at, node_same, numbers_same, size_by, tables_by, tells_read, truth_by}
+use Rattle.module_meanings.proofs.Around.{types_same, ways_by}
+use Rattle.module_meanings.proofs.Flat.{GiveOptions}
+use Rattle.module_meanings.proofs.Crossed.{crosses_wider, part_right, part_stays}
 use Rattle.module_meanings.proofs.Known.{bodies_there, stands}
-use Rattle.module_meanings.proofs.Made.{AreLets, crossed, directed_slots, entered_there, every_crossed, module_of, name_of, numbers_at, numbers_in, reads_for}
-use Rattle.module_meanings.proofs.Made.{variables_at, way_of, way_reads}
+use Rattle.module_meanings.proofs.Made.{AreLets, crossed, directed_slots, entered_there, every_crossed, judged_within, module_of, name_of, numbers_at}
+use Rattle.module_meanings.proofs.Made.{numbers_in, reads_for, variables_at, way_of, way_reads}
 use Rattle.module_meanings.proofs.Slots.{given_place, has_slots, names_apart, typs_of}
 
 none : {A X : Type 0} (x : A) → None ≡ Some x → X
 none x e = cc
+
+some_same : {A : Type 0} (x y : A) → Some x ≡ Some y → x ≡ y
+some_same x y e = cc
 
 some_none : {X : Type 0} (c : ℕ) → ◌≡◌ {A = Option (Option ℕ)} (Some None) (Some (Some c)) → X
 some_none c e = cc
@@ -111,7 +115,7 @@ ways_in ss mappings from (n ∷ ds) (Some b ∷ turned) (suc d) c m h e f =
     one_more n k = omega arith
 
 module _ (core : CoreModel) (sized : SizedCore) (m : Module) (low : FlatFrom core sized m) (apart : AllAlone core sized) (first : OptionFirst core.types)
-    (hart : ℕ) (vs : List Value) (lets : AreLets core sized m low vs) where
+    (gives : GiveOptions core.directions) (hart : ℕ) (vs : List Value) (lets : AreLets core sized m low vs) where
   abbrev x : Made
   x = module_of core sized m low hart vs lets
 
@@ -127,20 +131,23 @@ module _ (core : CoreModel) (sized : SizedCore) (m : Module) (low : FlatFrom cor
   -- ---- a direction that is made
 
   module _ (d c : ℕ) (e : slice_get low.model.turned.now d ≡ Some (Some c)) where
-    abbrev w : WayThere low.directions core.types d c
+    abbrev w : WayThere low.directions d
     w = way_of core sized m low d c e
 
+    abbrev made : WayMade low.model w.which w.function w.at.cycle w.at.direction w.code
+    made = w.at.is
+
     abbrev dir : Direction
-    dir = w.direction
+    dir = w.at.direction
 
     abbrev bodies : List (List NodeSizes)
-    bodies = w.is.nodes ∷ []
+    bodies = made.nodes ∷ []
 
     abbrev entering : Entered
-    entering = mapped_by low.model.core.now.types w.number dir
+    entering = mapped_by low.model.core.now.types w.function dir
 
-    abbrev way : WayTaken low.model bodies dir entering w.own w.code
-    way = w.is.taken
+    abbrev way : WayTaken low.model bodies dir entering w.at.cycle w.code
+    way = made.taken
 
     abbrev setting : Setting
     setting = way.walk.setting.now
@@ -180,14 +187,20 @@ module _ (core : CoreModel) (sized : SizedCore) (m : Module) (low : FlatFrom cor
     there_d : place - many ≡ d
     there_d = back many d
 
-    from_first : (k : ℕ) → 0 + k ≡ k
-    from_first k = omega arith
+    sized_at : slice_get sized.mappings (w.which / 2) ≡ Some made.nodes
+    sized_at = ap (λ (z : SizedCore). slice_get z.mappings (w.which / 2)) (sym low.is.of_sized) ∙ made.sized
 
-    sized_at : slice_get sized.mappings (w.place / 2) ≡ Some w.is.nodes
-    sized_at = ap (λ (z : SizedCore). slice_get z.mappings (w.place / 2)) (sym low.is.of_sized) ∙ w.is.sized
+    sized_is : slice_get sized.mappings (d / 2) ≡ Some made.nodes
+    sized_is = ap (λ k. slice_get sized.mappings (k / 2)) (sym w.is_which) ∙ sized_at
 
-    sized_is : slice_get sized.mappings (d / 2) ≡ Some w.is.nodes
-    sized_is = ap (λ k. slice_get sized.mappings (k / 2)) (sym (w.placed ∙ from_first d)) ∙ sized_at
+    found : slice_get core.directions d ≡ Some dir
+    found = ap (λ (z : CoreModel). slice_get z.directions d) (sym low.is.of_core) ∙ ap (slice_get low.model.core.now.directions) (sym w.is_which) ∙ w.at.found
+
+    owned : w.at.cycle ≡ c
+    owned = same_cycle w.at.cycle c (sym w.at.turned ∙ ap (slice_get low.model.turned.now) w.is_which ∙ e)
+      where
+        same_cycle : (a b : ℕ) → Some (Some a) ≡ Some (Some b) → a ≡ b
+        same_cycle a b e = cc
 
     nodes_is : own ≡ nodes
     nodes_is =
@@ -197,7 +210,7 @@ module _ (core : CoreModel) (sized : SizedCore) (m : Module) (low : FlatFrom cor
     variables_is : tree_reads bodies dir.body ≡ variables
     variables_is =
         sym (ap (reads_for core sized m low (place - many)) nowhere ∙ ap (λ k. reads_for core sized m low k None) there_d
-        ∙ (λ j. way_reads core sized m low (e j) (sized_is j) (w.found j)))
+        ∙ (λ j. way_reads core sized m low (e j) (sized_is j) (found j)))
 
     numbers_is : [] ≡ zs
     numbers_is = sym (ap (numbers_in core sized m low) nowhere)
@@ -207,25 +220,26 @@ module _ (core : CoreModel) (sized : SizedCore) (m : Module) (low : FlatFrom cor
         ap (cycle_by low.called.cycles low.model.turned.now (place - many)) nowhere ∙ ap (λ k. way_cycle (slice_get low.model.turned.now k)) there_d
         ∙ ap way_cycle e
 
-    -- it calls such directions alone as it may
+    -- it calls and asks such directions alone as it may
 
-    signed : (λ k. turned_in way.judge.signs.now.cycle (slice_get way.judge.signs.now.turned.now k)) ≡ cross
-    signed =
-        let cycle : way.judge.signs.now.cycle ≡ cycle_there core sized m low place = way.around.cycle_is ∙ w.owned ∙ sym cycle_is in
-        λ j k. turned_in (cycle j) (slice_get (way.around.turned j) k)
+    -- whatever the numbering of slots, as this one
+    abbrev some_name : Naming
+    some_name = name_in coding.slots
 
-    body_within : crosses_within cross dir.body ≡ true
-    body_within =
-        subst (λ g. crosses_within g dir.body ≡ true) signed
-        (right_crosses way.judge.setting.now.types.now (number_here way.judge) (callees_here way.judge) (tables_here way.judge) (signs_here way.judge)
-        dir.body way.code.right)
+    clauses_right : (typed way.judge clauses).right ≡ true
+    clauses_right =
+        let j : Judge = way.judge in
+        part_right j.setting.now.types.now (kit_for j.setting.now some_name) (number_here j) (callees_here j) (tables_here j) (signs_here j) dir.body clauses
+        way.typ way.body.kind way.body.parts way.code.right
 
     clauses_within : crosses_within cross clauses ≡ true
-    clauses_within = part_within cross dir.body clauses way.body.parts body_within
+    clauses_within =
+        judged_within core sized m low way.judge place (way.around.cycle_is ∙ owned ∙ sym cycle_is) way.around.turned some_name clauses
+        ((λ i. (node_for (way.around.judged.0 i) (way.around.judged.1 i) some_name clauses).ok) ∙ way.code.able some_name) clauses_right
 
     -- what calls of it enter
 
-    mapped_is : x.direction d ≡ mapped_of (mapped_by core.types (2 * many + w.at) dir)
+    mapped_is : x.direction d ≡ mapped_of (mapped_by core.types (place_in low.model.order.now d) dir)
     mapped_is = ap direction_in (entered_there core sized m low d c e)
 
     abbrev q : ℕ
@@ -234,7 +248,7 @@ module _ (core : CoreModel) (sized : SizedCore) (m : Module) (low : FlatFrom cor
     abbrev takes : Sized
     takes = (x.direction d).takes
 
-    q_is : q ≡ 2 * many + w.at
+    q_is : q ≡ place_in low.model.order.now d
     q_is = ap (λ (z : Mapped). z.function) mapped_is
 
     takes_is : takes ≡ fixed_typ core.types dir.parameter
@@ -248,16 +262,16 @@ module _ (core : CoreModel) (sized : SizedCore) (m : Module) (low : FlatFrom cor
 
     is_there : slice_get m.functions q ≡ Some w.code
     is_there =
-        ap (slice_get m.functions)
-        (q_is ∙ ap (λ k. k + w.at) (sym (low.instances.many ∙ ap (λ (z : SizedCore). 2 * length z.instances) low.is.of_sized)))
-        ∙ ap (λ fs. slice_get fs (length low.functions + w.at)) low.all ∙ get_past low.functions (low.ways ++ low.opened) w.at
-        ∙ got_before low.ways low.opened w.at w.code w.there
+        ap (slice_get m.functions) q_is ∙ ap (λ fs. slice_get fs (place_in low.model.order.now d)) low.all
+        ∙ got_before low.ways (low.functions ++ low.opened) (place_in low.model.order.now d) w.code w.there
 
     abbrev name : Naming
     name = name_of core sized m low q
 
     name_is : name ≡ name_in coding.slots
-    name_is = ap (name_of core sized m low) q_is ∙ ap name_in (directed_slots core sized m low w.at ∙ w.slots)
+    name_is =
+        ap (name_of core sized m low) q_is
+        ∙ ap name_in (directed_slots core sized m low (place_in low.model.order.now d) w.code w.there ∙ w.slots)
 
     types_is : setting.numbered.now ≡ ss
     types_is = numbers_same core sized m low low.model low.is bodies [] setting way.around.setting
@@ -266,11 +280,11 @@ module _ (core : CoreModel) (sized : SizedCore) (m : Module) (low : FlatFrom cor
     table_is = types_same core sized m low low.model low.is bodies [] setting way.around.setting
 
     abbrev kit_here : Kit
-    kit_here = kit_by core sized m low zs name
+    kit_here = kit_at core sized m low zs name
 
     kit_is : kit_for setting name ≡ kit_here
     kit_is =
-        kit_same core sized m low low.model low.is bodies [] setting way.around.setting name ∙ (λ j. kit_by core sized m low (numbers_is j) name)
+        kit_same core sized m low low.model low.is bodies [] setting way.around.setting name ∙ (λ j. kit_at core sized m low (numbers_is j) name)
 
     -- its code
 
@@ -280,7 +294,7 @@ module _ (core : CoreModel) (sized : SizedCore) (m : Module) (low : FlatFrom cor
     node_is : node_for setting around name clauses ≡ there clauses
     node_is =
         node_same core sized m low low.model low.is bodies [] setting way.around.setting around (takes ∷ []) low.model.openings.now
-        (way.around.instances ∙ ap (λ (z : SizedCore). z.instances) low.is.of_sized) given_is way.around.openings way.around.directions name clauses
+        (way.around.instances ∙ ap (λ (z : SizedCore). z.instances) low.is.of_sized) given_is way.around.openings (way.around.before ∙ low.before) name clauses
         ∙ (λ j. node_at core sized m low (every core sized m low low.model.directions.now) (numbers_is j) (takes ∷ []) low.model.openings.now
         (variables_is j) (nodes_is j) name clauses)
         ∙ crossed_same core sized m low (every core sized m low low.model.directions.now) cross zs (takes ∷ []) low.model.openings.now variables nodes name
@@ -312,20 +326,20 @@ module _ (core : CoreModel) (sized : SizedCore) (m : Module) (low : FlatFrom cor
     payload_is : entering.payload ≡ fixed_typ core.types way.typ
     payload_is = λ j. payload_in (types_model j) (way.body.kind j)
 
-    code_there : code_of m q ≡ direction_code kit_here true dir.place
+    code_there : code_of m q ≡ direction_code kit_here dir.place
         (optional_piece core.types kit_here (fixed_typ core.types (option_typ way.typ)) (fixed_typ core.types way.typ) (there clauses).piece)
     code_there =
-        code_is ∙ way.code.code.put ∙ ap (λ n. mapping_for way.walk n true dir.place way.typ clauses) (sym name_is)
-        ∙ (λ j. direction_code (kit_is j) true dir.place
+        code_is ∙ way.code.code.put ∙ ap (λ n. mapping_for way.walk n dir.place way.typ clauses) (sym name_is)
+        ∙ (λ j. direction_code (kit_is j) dir.place
         (optional_piece (table_is j) (kit_is j) (fixed_typ (table_is j) (option_typ way.typ)) (fixed_typ (table_is j) way.typ) (node_is j).piece))
 
     -- the types that it takes and gives have numbers
 
     takes_numbered : is_known low.model.numbered.now entering.takes ≡ true
-    takes_numbered = left _ w.is.known
+    takes_numbered = left _ made.known
 
     gives_numbered : is_known low.model.numbered.now entering.gives ≡ true
-    gives_numbered = left _ (right _ w.is.known)
+    gives_numbered = left _ (right _ made.known)
 
     takes_known : is_known ss takes ≡ true
     takes_known =
@@ -342,21 +356,24 @@ module _ (core : CoreModel) (sized : SizedCore) (m : Module) (low : FlatFrom cor
     abbrev z : Making Item
     z = checked core.types cases
 
-    own_same : own ≡ w.is.nodes
-    own_same = append-nil w.is.nodes
+    own_same : own ≡ made.nodes
+    own_same = append-nil made.nodes
 
     reads_so : x.s.sizing.direction d ≡ z
     reads_so = ap (λ ns. checked core.types (noted_cases_of core.types sized.instances ns)) (ap or_none sized_is ∙ sym own_same)
 
     alone : EachAlone own
-    alone = subst EachAlone (sym own_same) (apart.mapping (w.place / 2) w.is.nodes sized_at w.is.alone)
+    alone = subst EachAlone (sym own_same) (apart.mapping (w.which / 2) made.nodes sized_at made.alone)
 
     in_nodes : C.all_known (is_known ss) own ≡ true
     in_nodes =
         bodies_there ss bodies
-        (and_true (all_in_nodes ss w.is.nodes)
+        (and_true (all_in_nodes ss made.nodes)
         (ap (in_mapping ss) (sym (ap (λ k. slice_get sized.mappings (k / 2)) (from_first d) ∙ sized_is))
-        ∙ ways_in ss sized.mappings 0 core.directions low.model.turned.now d c dir low.in_ways e w.found))
+        ∙ ways_in ss sized.mappings 0 core.directions low.model.turned.now d c dir low.in_ways e found))
+      where
+        from_first : (k : ℕ) → 0 + k ≡ k
+        from_first k = omega arith
 
     tells_so : Tells core.types (tables_by core sized m low variables nodes) cases
     tells_so =
@@ -369,30 +386,39 @@ module _ (core : CoreModel) (sized : SizedCore) (m : Module) (low : FlatFrom cor
         ∙ (λ j. kind_meaning z world (out-Core dir.body).place (out-Core dir.body).number (way.body.kind j) (map (meaning z world) (way.body.parts j)))
 
     all_stay : (k : ℕ) (n : Direction) → slice_get core.directions k ≡ Some n → returns_nothing n.body ≡ true
-    all_stay k n h = w.is.stay k n (ap (λ (y : CoreModel). slice_get y.directions k) low.is.of_core ∙ h)
+    all_stay k n h = made.stay k n (ap (λ (y : CoreModel). slice_get y.directions k) low.is.of_core ∙ h)
 
-    quiet : (n : ℕ) (active : Measures) (xs : List Item) → QuietWorld (world_of x.s (calls x.s n) active [] xs)
-    quiet n active xs =
+    quiet : (n : ℕ) (active : Measures) (rank : ℕ) (xs : List Item) → QuietWorld (asking x.s (calls x.s n) active (ways x.s (calls x.s n) active rank) [] xs)
+    quiet n active rank xs =
         worlds_stay core.types x.s (λ k. noted_cases_of core.types sized.instances (or_none (slice_get sized.mappings (k / 2))))
-        (λ k y h. (refl, all_stay k y h)) n active [] xs
+        (λ k y h. (refl, all_stay k y h)) n active rank [] xs
+
+    -- it gives an option of what its clauses give
+
+    result_is : dir.result ≡ option_typ way.typ
+    result_is = gives d dir way.typ found way.body.kind
+
+    gives_is : fixed_typ core.types (option_typ way.typ) ≡ (x.direction d).gives
+    gives_is = sym (ap (λ (z : Mapped). z.gives) mapped_is ∙ ap (option_in core.types) way.body.kind)
 
     -- ---- entered with a value of what it takes
 
     pub turned_so : (v : Value) → has_sizes core.types v takes ≡ true → Turned x d v
     turned_so v has = record {
       m = dir;
-      found = w.found;
+      found = found;
       cases = cases;
       reads = reads_so;
-      enters = ap (λ o. option_map (λ s. item s v) (taken core.types v o)) w.found
+      enters = ap (λ o. option_map (λ s. item s v) (taken core.types v o)) found
           ∙ ap (λ b. option_map (λ s. item s v) (only b (fixed_typ core.types dir.parameter))) (ap (has_sizes core.types v) (sym takes_is) ∙ has)
           ∙ ap (λ t. Some (item t v)) (sym takes_is);
       tells = tells_so;
-      types = basic_of core.types ss m.types (stands core sized m low) name m.exception (size_by core sized m low zs) (basics core sized m low).0
+      types = basic_of core.types ss m.types (stands core sized m low) name m.exception (size_by core sized m low zs)
+          (ways_by core sized m low low.model.directions.now) (basics core sized m low).0
           (basics core sized m low).1 (basics core sized m low).2;
       names = names_stand;
       slots = slots_stand;
-      known_taken = takes_known;
+      known_taken = λ p. takes_known;
       place = place_stands;
       sizes = λ t n h. sizes_known [] [] refl t n (ap (λ ns. size_by core sized m low ns t) numbers_is ∙ h);
       truths = λ k b h. truths_known [] [] refl k b (ap (λ ns. truth_by core sized m low ns k) numbers_is ∙ h);
@@ -403,16 +429,35 @@ module _ (core : CoreModel) (sized : SizedCore) (m : Module) (low : FlatFrom cor
       ends = sym (λ j. ends_with (payload_is j) (fixed_end (node_is j).piece.ends)) ∙ way.code.ends name;
       somes = somes core.types first way.typ;
       none = none_has core.types first way.typ;
-      known_option = option_known;
-      stays = λ n active now.
-          core_q core.types cases (world_of x.s (calls x.s n) active [] (item takes v ∷ [])) (quiet n active (item takes v ∷ [])) clauses
-          (part_stays dir.body clauses way.body.parts (all_stay d dir w.found)) now;
+      known_option = λ p. option_known;
+      result = result_is;
+      gives = gives_is;
+      stays = λ n active rank now.
+          core_q core.types cases (asking x.s (calls x.s n) active (ways x.s (calls x.s n) active rank) [] (item takes v ∷ []))
+          (quiet n active rank (item takes v ∷ [])) clauses (part_stays dir.body clauses way.body.parts (all_stay d dir found)) now;
       code = code_there;
     }
 
-  -- ---- all that may be called
+  -- ---- all that may be called or asked
 
   pub all_turned : AllTurned x
   all_turned p d v crosses has =
       let r = crossed core sized m low p d crosses in
       turned_so d r.0 r.1 v has
+
+  -- and it takes no other value
+  pub all_taken : AllTaken x
+  all_taken p d v y crosses is =
+      let r = crossed core sized m low p d crosses in
+      subst (λ t. has_sizes core.types v t ≡ true) (sym (takes_is d r.0 r.1)) (by (slice_get core.directions d) (found d r.0 r.1) is)
+    where
+      sized_only : (t : Sized) (b : Bool) → has_sizes core.types v t ≡ b → option_map (λ s. item s v) (only b t) ≡ Some y → has_sizes core.types v t ≡ true
+      sized_only t true e h = e
+      sized_only t false e h = none y h
+
+      by : {dir : Direction} (o : Option Direction) → o ≡ Some dir → option_map (λ s. item s v) (taken core.types v o) ≡ Some y
+          → has_sizes core.types v (fixed_typ core.types dir.parameter) ≡ true
+      by None e h = none _ e
+      by (Some n) e h =
+          subst (λ k. has_sizes core.types v (fixed_typ core.types k.parameter) ≡ true) (some_same n _ e)
+          (sized_only (fixed_typ core.types n.parameter) (has_sizes core.types v (fixed_typ core.types n.parameter)) refl h)

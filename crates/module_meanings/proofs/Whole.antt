@@ -20,11 +20,11 @@ use Rattle.jib_lower.specs.Lowered.{LoweredFrom}
 use Rattle.module_cycles.specs.Laws.{ModelsAgree, OfModel}
 use Rattle.module_meanings.specs.Laws.{ModulesAreMade, ModulesStart}
 use Rattle.module_meanings.proofs.Alone.{AllAlone, all_alone}
-use Rattle.module_meanings.proofs.Flat.{checks_flat, start_flat}
+use Rattle.module_meanings.proofs.Flat.{checks_flat, give_options, start_flat}
 use Rattle.module_meanings.proofs.Instances.{all_lowered, all_tick, events_lowered}
 use Rattle.module_meanings.proofs.Lets.{lets_are, starts_so}
 use Rattle.module_meanings.proofs.Made.{AreLets, module_of}
-use Rattle.module_meanings.proofs.Ways.{all_turned}
+use Rattle.module_meanings.proofs.Ways.{all_taken, all_turned}
 
 module _ (core : CoreModel) (sized : SizedCore) (m : Module) (low : LoweredFrom core sized m) (apart : NumbersApart core)
     (found : sized_core core ≡ Ok sized) (first : OptionFirst core.types) where
@@ -60,7 +60,8 @@ module _ (core : CoreModel) (sized : SizedCore) (m : Module) (low : LoweredFrom 
       awaits = λ p s e. ap awaited_in e;
       agrees = agree flat sized m x low.flat of_model;
       lowered = all_lowered flat sized m low.flat alone hart vs lets;
-      turned = all_turned flat sized m low.flat alone first hart vs lets;
+      turned = all_turned flat sized m low.flat alone first (give_options core sized) hart vs lets;
+      taken = all_taken flat sized m low.flat alone first (give_options core sized) hart vs lets;
       ticks = all_tick flat sized m low.flat alone hart vs lets;
       events = events_lowered flat sized m low.flat alone hart vs lets;
     }

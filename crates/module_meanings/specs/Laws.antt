@@ -1,5 +1,5 @@
 -- The machine of the module of a text does as the text means: what is worked out once, `reset` and `step`.
-use Rattle.std.specs.Prelude.{◌≡◌, ◌<◌, ◌≤◌, ◌+◌, ◌*◌, ℕ, true, List, [], Option, Some, Ok}
+use Rattle.std.specs.Prelude.{◌≡◌, ◌<◌, ◌≤◌, ◌+◌, ◌*◌, ℕ, true, List, [], length, Option, Some, Ok}
 use Rattle.sail_types.specs.Numbers.{Positive}
 use Rattle.sail_types.specs.declared.values.Value.{Value}
 use Rattle.sail_types.specs.declared.values.Value.TheVariants as V
@@ -19,7 +19,7 @@ use Rattle.sized_nodes.specs.declared.trees.SizedCore.{SizedCore}
 use Rattle.sized_meanings.specs.Sized.{noted_checks_of}
 use Rattle.covering_laws.specs.Apart.{NumbersApart}
 use Rattle.text_progress.specs.Laws.{core_of}
-use Rattle.sail_compile.specs.Meanings.{JibMeans}
+use Rattle.sail_compile.specs.Meanings.{JibMeans, entries}
 use Rattle.sail_compile.specs.Models.{AreAccepted}
 use Rattle.sail_compile.specs.declared.models.Accepted.{Accepted}
 use Rattle.whole_runs.specs.Runs.{Behind}
@@ -37,19 +37,20 @@ use Rattle.jib_lower.specs.Lowered.{LoweredFrom}
 
 -- ---- of a core whose nodes have numbers of their own, and whose first type is `option`
 
--- a module at work, with these values of its openings, that is made of a core; events enter the function behind that which calls enter
-pub record IsMade (core : CoreModel) (sized : SizedCore) (m : Module) (lets : List Value) (hart : ℕ) : Type 0 where
+-- a module at work, with these values of its openings, that is made of a core, where so many functions of directions of mappings stand first; events enter the
+-- function behind that which calls enter
+pub record IsMade (core : CoreModel) (sized : SizedCore) (m : Module) (before : ℕ) (lets : List Value) (hart : ℕ) : Type 0 where
   pub made : Made
   pub module_is : made.m ≡ m
   pub lets_are : made.lets ≡ lets
-  pub event_is : (p : ℕ) → made.event p ≡ 2 * p + 1
+  pub event_is : (p : ℕ) → made.event p ≡ before + 2 * p + 1
   pub is : MadeOf core sized hart made
 
 -- the module that is lowered from a core is made of it, over whatever state its openings are worked out
 abbrev pub ModulesAreMade : Type 0
-ModulesAreMade = (core : CoreModel) (sized : SizedCore) (m : Module) → NumbersApart core → sized_core core ≡ Ok sized → LoweredFrom core sized m
+ModulesAreMade = (core : CoreModel) (sized : SizedCore) (m : Module) → NumbersApart core → sized_core core ≡ Ok sized → (low : LoweredFrom core sized m)
     → OptionFirst core.types → (over : RunState) (es : List Ended) (lets : List Value) → Opens m core.types over m.openings [] es lets → (hart : ℕ)
-    → IsMade core sized m lets hart
+    → IsMade core sized m (length low.flat.ways) lets hart
 
 -- and so from each state its openings, which ended so, come to what those of the core come to where cases go by noted numbers and none is stuck: they set
 -- the registers in order, or stop at the first that stops
@@ -61,10 +62,10 @@ ModulesStart = (core : CoreModel) (sized : SizedCore) (m : Module) → NumbersAp
 
 -- ---- of an accepted text
 
--- the machine of this module, whose openings ended so and have these values: `reset` enters the first instance, and `step` the second, by the function that
--- stands behind the one that calls enter
-abbrev pub machine_of : (core : CoreModel) (m : Module) → valid m ≡ true → List Ended → List Value → Meaning
-machine_of core m v es lets = events m v core.types core.registers (record { reset = 1; step = 3 }) es lets
+-- the machine of this module, where so many functions of directions of mappings stand first, and whose openings ended so and have these values: `reset` enters
+-- the first instance, and `step` the second, by the function that stands behind the one that calls enter
+abbrev pub machine_of : (core : CoreModel) (m : Module) → ℕ → valid m ≡ true → List Ended → List Value → Meaning
+machine_of core m before v es lets = events m v core.types core.registers (entries before) es lets
 
 -- a part of the text's run comes to this, and something is so behind it, where it doesn't stop the run
 abbrev pub Comes : Option Ran → Ran → (Ran → Type 0) → Type 0
@@ -87,10 +88,10 @@ pub record MeansText (text : List Def) (cycle : Cycles) (past : Positive) (count
 -- its openings are worked out over whatever state, its machine does as the text means
 abbrev pub MachinesMeanTexts : Type 0
 MachinesMeanTexts = (texts : List (List ℕ)) (made : Accepted) (accepted : AreAccepted texts made) (cycle : Cycles) (sized : SizedCore) (m : Module)
-    → AllHold (obligations (core_in accepted cycle)) → sized_core (core_in accepted cycle) ≡ Ok sized → LoweredFrom (core_in accepted cycle) sized m
+    → AllHold (obligations (core_in accepted cycle)) → sized_core (core_in accepted cycle) ≡ Ok sized → (low : LoweredFrom (core_in accepted cycle) sized m)
     → (v : valid m ≡ true) (over : RunState) (es : List Ended) (lets : List Value) → Opens m (core_in accepted cycle).types over m.openings [] es lets
     → (past : Positive) (count : ℕ) → 0 < count → count ≤ 8
-    → MeansText (gathered accepted.definitions) cycle past count (machine_of (core_in accepted cycle) m v es lets)
+    → MeansText (gathered accepted.definitions) cycle past count (machine_of (core_in accepted cycle) m (length low.flat.ways) v es lets)
 
 -- so what the engine of flat code means by the definitions of an accepted text is what they mean
 abbrev pub EnginesMeanTexts : Type 0

@@ -161,7 +161,7 @@ events_come answer m c hart x of i p e ticks vs state ran h =
     let a : Instance = record { place = p; numbers = numbers_of e.instance.instance } in
     let now : Now Item = S.begun ticks state in
     let less : ticks < suc ticks = omega arith in
-    let there = answer x of.agrees of.lowered of.turned of.ticks of.events (suc ticks) i a vs now (of.of p e.instance e.is_there ∙ e.is_of)
+    let there = answer x of.agrees of.lowered of.turned of.taken of.ticks of.events (suc ticks) i a vs now (of.of p e.instance e.is_there ∙ e.is_of)
     (of.awaits p e.instance e.is_there) less in
     let answers : AnswersFrom x.m x.lets hart (J.alone (x.event p)) (x.event p) vs now
     (event_of t (calls t (suc ticks)) i (Some a) vs (slice_get flat.functions i) now) =

@@ -11,7 +11,7 @@ use Rattle.checked_meaning.specs.Checked.{checking}
 use Rattle.sized_nodes.specs.declared.trees.SizedCore.{SizedCore}
 use Rattle.sized_nodes.specs.declared.trees.SizedInstance.{SizedInstance}
 use Rattle.sized_meanings.specs.Sized.{entered, noted_checks_of, numbers_of}
-use Rattle.lowered_laws.specs.Modules.{Agrees, AllLowered, AllTick, AllTurned, EventsLowered, Made}
+use Rattle.lowered_laws.specs.Modules.{Agrees, AllLowered, AllTaken, AllTick, AllTurned, EventsLowered, Made}
 use Rattle.safe_models.specs.Options.{OptionFirst}
 
 -- a module that is made of a core with these sizes, for a hart: it is that of the core without mappings and with flat arms, and stands to the meaning in which
@@ -25,6 +25,7 @@ pub record MadeOf (m : CoreModel) (c : SizedCore) (hart : ℕ) (x : Made) : Type
   pub agrees : Agrees x
   pub lowered : AllLowered x
   pub turned : AllTurned x
+  pub taken : AllTaken x
   pub ticks : AllTick x
   pub events : EventsLowered x
 
