@@ -59,7 +59,7 @@ use Rattle.whole_runs.specs.Runs.{AreThere}
 use Rattle.whole_runs.specs.Safe.{IsFit}
 use Rattle.safe_models.specs.Safe.{Cycles, FreshStatesFit, meant_of}
 use Rattle.module_meanings.specs.Laws.{EnginesMeanTexts, MeansText}
-use Rattle.sail_top.specs.Answer.{AnswersCommand, AnswersEnd, AnswersFiles, AnswersLine, AnswersRun, Judges, answer_for, image_unless}
+use Rattle.sail_top.specs.Answer.{AnswersCommand, AnswersEnd, AnswersFiles, AnswersLine, AnswersRun, Judges, answer_for, machine_of, image_unless}
 use Rattle.sail_top.specs.Answer.{accepted_text, run_unless}
 use Rattle.sail_top.specs.Seeded.{seeded_front, seeded_image, seeded_setup, seeded_texts}
 use Rattle.sail_top.specs.Reading.{ReadEnd, absent, contents_at, long, reading, wanted_by, whole}
@@ -206,8 +206,8 @@ module _ (texts : List (List ℕ)) (made : Accepted) (accepted : AreAccepted tex
       image_same image (Some refusal) = refl
       image_same image None = placed_same image (place_refusal image setup.ram_base setup.ram_size)
 
-      file_same : (file : List ℕ) → answer_for front setup types m file ≡ answer_for front setup types n file
-      file_same file = image_same (image_of file) (elf_refusal file None)
+      file_same : (file : List ℕ) → answer_for front setup types (machine_of made) m file ≡ answer_for front setup types (machine_of made) n file
+      file_same file = image_same (image_of file) (elf_refusal file (machine_of made))
 
 -- ---- answers
 

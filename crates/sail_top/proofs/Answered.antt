@@ -34,7 +34,7 @@ use Rattle.sail_compile.specs.Shaped.{why_unshaped, shape_refusal_in}
 use Rattle.sail_top.specs.laws.OneAnswer.{AreAnswered, AreDecided, HasAnswer, MeansOrLeaves}
 use Rattle.sail_top.specs.Answer.{Judges, RunsFiles, AnswersEnd, AnswersLine, IsAnswer}
 use Rattle.sail_top.specs.Answer.{AnswersRun, AnswersAccepted, AnswersCheck, AnswersCerts, AnswersSynth}
-use Rattle.sail_top.specs.Answer.{accepted_text, answer_for, model_refused, told, usage, no_file, too_long}
+use Rattle.sail_top.specs.Answer.{accepted_text, answer_for, machine_of, model_refused, told, usage, no_file, too_long}
 use Rattle.sail_top.specs.Seeded.{seeded_front, seeded_image, seeded_setup, seeded_texts}
 use Rattle.sail_top.specs.Reading.{Wanted, wanted_model, wanted_elf, wanted_by, Contents, contents_at}
 use Rattle.sail_top.specs.Reading.{ReadEnd, whole, absent, long, behind, reading}
@@ -121,7 +121,7 @@ ran : MeansOrLeaves jib → (front : List ℕ) (setup : Setup) (file : List ℕ)
 ran runs front setup file texts made accepted =
     elim (runs texts made accepted) [
       | inl left ↦ (model_refused outside, inl (left, refl))
-      | inr means ↦ (answer_for front setup made.certified.core.types means.0 file, inr (means.0, means.1, means.2, refl))
+      | inr means ↦ (answer_for front setup made.certified.core.types (machine_of made) means.0 file, inr (means.0, means.1, means.2, refl))
     ]
 
 module _ (decided : AreDecided) (runs : MeansOrLeaves jib) (command : Run) where

@@ -8,7 +8,7 @@ use Rattle.sail_compile.specs.Engines.{IsSingle, Meant}
 use Rattle.sail_compile.proofs.ModelLemmas.{one_accepted_of, one_refusal_of, one_text_of, accepted_not_refused}
 use Rattle.sail_top.specs.Answer.{Judges, RunsFiles, AnswersFiles, AnswersEnd, AnswersCommand, AnswersLine, IsAnswer}
 use Rattle.sail_top.specs.Answer.{AnswersRun, AnswersAccepted, AnswersCheck, AnswersCerts, AnswersSynth, accepted_text, told}
-use Rattle.sail_top.specs.Answer.{answer_for, image_unless, run_unless, model_refused}
+use Rattle.sail_top.specs.Answer.{answer_for, machine_of, image_unless, run_unless, model_refused}
 use Rattle.sail_top.specs.Seeded.{seeded_texts, seeded_image, seeded_setup, seeded_front}
 use Rattle.elf_load.specs.Placed.{place_refusal}
 use Rattle.elf_load.specs.Reading.{elf_refusal, image_of}
@@ -58,7 +58,7 @@ module _ (engine : Meant) where
   plain_ran front setup file made text answer (inl left) = subst (λ (a : Answer). IsPlain a.status) (sym left.1) tt
   plain_ran front setup file made text answer (inr ran) =
       subst (λ (a : Answer). IsPlain a.status) (sym ran.3)
-      (plain_image front setup made.certified.core.types ran.0 (image_of file) (elf_refusal file None))
+      (plain_image front setup made.certified.core.types ran.0 (image_of file) (elf_refusal file (machine_of made)))
 
   plain_files : (command : Command) (files : List (List ℕ)) (answer : Answer) → AnswersFiles engine command files answer → IsPlain answer.status
   plain_files (C.Run command) files answer is =
@@ -122,7 +122,7 @@ module _ (engine : Meant) where
   one_ran single front setup file made text a b (inl p) (inr q) = absurd (single.never text q.0 q.1 p.0)
   one_ran single front setup file made text a b (inr p) (inl q) = absurd (single.never text p.0 p.1 q.0)
   one_ran single front setup file made text a b (inr p) (inr q) =
-      p.3 ∙ ap (λ m. answer_for front setup made.certified.core.types m file) (single.once text p.0 q.0 p.1 q.1) ∙ sym q.3
+      p.3 ∙ ap (λ m. answer_for front setup made.certified.core.types (machine_of made) m file) (single.once text p.0 q.0 p.1 q.1) ∙ sym q.3
 
   one_of_run : IsSingle engine → (command : Run) (files : List (List ℕ)) (a b : Answer) → RunsFiles engine command files a
       → RunsFiles engine command files b → a ≡ b

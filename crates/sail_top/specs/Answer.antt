@@ -1,5 +1,5 @@
 -- What the program answers to its words, over the files that are held.
-use Rattle.std.specs.Prelude.{◌≡◌, ℕ, List, [], ◌∷◌, ◌++◌, ◌⊎◌, codes, length, Option, Some, None}
+use Rattle.std.specs.Prelude.{◌≡◌, ℕ, ℤ, List, [], ◌∷◌, ◌++◌, ◌⊎◌, codes, length, Option, Some, None}
 use Rattle.bidir_check.specs.Printed.{certificates_text, counts_text}
 use Rattle.model_state.specs.Report.{number_text}
 use Rattle.sail_base.specs.declared.refusal.Refusal.{Refusal}
@@ -24,6 +24,7 @@ use Rattle.sail_compile.specs.Models.{AreAccepted, IsRefusal}
 use Rattle.sail_top.specs.Reading.{ReadEnd, whole, absent, long, Contents, contents_at, wanted_by, reading}
 use Rattle.sail_compile.specs.Refusals.{outside}
 use Rattle.sail_top.specs.Run.{ram, run_text}
+use Rattle.sail_top.specs.Wanted.{wanted_machine}
 use Rattle.sail_top.specs.Seeded.{seeded_texts, seeded_image, seeded_setup, seeded_front}
 use Rattle.sail_compile.specs.declared.compiled.Running.{Running}
 use Rattle.sail_compile.specs.declared.compiled.Running.TheVariants as R
@@ -59,13 +60,17 @@ abbrev pub image_unless : List ℕ → Setup → Types → Meaning → Image →
 image_unless front setup types model image (Some refusal) = image_refused refusal
 image_unless front setup types model image None = image_answer front setup types model image
 
--- the answer for a model and a program's file, of whatever machine the file is
-abbrev pub answer_for : List ℕ → Setup → Types → Meaning → List ℕ → Answer
-answer_for front setup types model file = image_unless front setup types model (image_of file) (elf_refusal file None)
+-- the answer for a model and a program's file, which has to be for this machine, if one is wanted
+abbrev pub answer_for : List ℕ → Setup → Types → Option ℤ → Meaning → List ℕ → Answer
+answer_for front setup types wanted model file = image_unless front setup types model (image_of file) (elf_refusal file wanted)
+
+-- the machine that an accepted model is for
+abbrev pub machine_of : Accepted → Option ℤ
+machine_of made = wanted_machine made.certified.core.openings
 
 -- the answer for an accepted model and a program's file, by what takes the steps of its harts; where there is nothing, the model is refused
 abbrev pub answer_by : {S : Type 0} → (S → Meaning) → List ℕ → Setup → List ℕ → Accepted → Running S → Answer
-answer_by meaning front setup file made (R.Runs stepper) = answer_for front setup made.certified.core.types (meaning stepper) file
+answer_by meaning front setup file made (R.Runs stepper) = answer_for front setup made.certified.core.types (machine_of made) (meaning stepper) file
 answer_by meaning front setup file made run = model_refused outside
 
 -- the answer of a run of an accepted model, with these definitions, and a program's file: that of what the engine may mean by them, over their registers;
@@ -74,7 +79,7 @@ abbrev pub AnswersRun : Meant → List ℕ → Setup → List ℕ → Accepted �
 AnswersRun engine front setup file made text answer =
     (engine.leaves text × (answer ≡ model_refused outside))
     ⊎ ((model : Meaning) × engine.means text model × (model.registers ≡ made.certified.core.registers)
-    × (answer ≡ answer_for front setup made.certified.core.types model file))
+    × (answer ≡ answer_for front setup made.certified.core.types (machine_of made) model file))
 
 -- that of `run`
 abbrev pub AnswersAccepted : Meant → Run → List ℕ → Accepted → List Def → Answer → Type 0

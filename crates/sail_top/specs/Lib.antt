@@ -6,6 +6,7 @@ pub mod Lines
 pub mod Reading
 pub mod Run
 pub mod Seeded
+pub mod Wanted
 -- what follows from it
 pub mod laws
 -- what the contracts of private functions say

@@ -9,6 +9,7 @@ ghost use Rattle.sail_top.specs.Answer as spec;
 use crate::lines::{elf_line, refusal_line};
 use crate::run::{Declared, run_text};
 use crate::status::{Answer, Status};
+use crate::wanted::wanted_machine;
 use elf_load::{ElfError, Image, place, read_elf};
 use mem_store::{Flat, Memory};
 use model_state::Stepper;
@@ -72,12 +73,20 @@ pub fn run_accepted<P: Stepper + Drop>(
     let Compiled { accepted, run } = made;
     match run {
         Running::Runs(stepper) => {
+            let wanted = machine_of(&accepted);
             let declared = declared_of(accepted);
-            judge_file(alloc, front, setup, declared, stepper, file)
+            judge_file(alloc, front, setup, declared, wanted, stepper, file)
         }
         Running::NotRun => refuse_model(alloc, outside(alloc)?),
         Running::NotWanted => refuse_model(alloc, outside(alloc)?),
     }
+}
+
+/// The machine that an accepted model is for, if it names one.
+fn machine_of(made: &Accepted) -> Option<i128>
+    ensures { result ≡ spec.machine_of made.now }
+{
+    wanted_machine(made.certified.core().openings.as_slice())
 }
 
 /// The named types and the registers of an accepted model.
@@ -103,20 +112,21 @@ fn declared_of(accepted: Accepted) -> Declared
     Declared { types, registers }
 }
 
-/// The answer for a model and a program's file.
+/// The answer for a model and a program's file, which has to be for the machine that is wanted, if one is.
 fn judge_file<P: Stepper + Drop>(
     alloc: Global,
     front: &[u8],
     setup: &Setup,
     declared: Declared,
+    wanted: Option<i128>,
     stepper: P,
     file: &[u8],
 ) -> Result<Answer, AllocError>
     requires limits { IsWithinLimits setup.now }
     requires registers { (P.meaning stepper).registers ≡ declared.registers }
-    ensures { IfOk result (λ answer. answer ≡ spec.answer_for front.now setup.now declared.types (P.meaning stepper) file.now) }
+    ensures { IfOk result (λ answer. answer ≡ spec.answer_for front.now setup.now declared.types wanted (P.meaning stepper) file.now) }
 {
-    match read_elf(alloc, file, None) {
+    match read_elf(alloc, file, wanted) {
         Ok(image) => judge_image(alloc, front, setup, declared, stepper, &image),
         Err(ElfError::Refused(refusal)) => refuse_image(alloc, refusal),
         Err(ElfError::OutOfMemory) => Err(AllocError),

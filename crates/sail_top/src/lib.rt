@@ -17,6 +17,7 @@ mod run;
 mod seeded;
 mod status;
 mod top;
+mod wanted;
 
 pub use laws::words_have_one_answer;
 pub use sail_base::{ElfRefusal, Refusal};
