@@ -139,6 +139,7 @@ write("riscv_rows.rt", texts)
 texts = ["//! Short programs for the models of RISC-V, in hexadecimal digits, with what is written for them, made by `tools/shipped_models.py`."]
 short = image(b"".join(word.to_bytes(4, "little") for word in SHORT))
 texts += ["", "/// addi x1, x0, 5; add x3, x1, x2; and zeros", "pub const SHORT: &str = concat!(", *digits(short), ");"]
+texts += ["", "/// The same for the machine 62.", "pub const OTHER_MACHINE: &str = concat!(", *digits(short[:18] + bytes([62, 0]) + short[20:]), ");"]
 for bits in (32, 64):
     registers = [0x80000008] + [5 if register in (1, 3) else 0 for register in range(1, 32)]
     values = [f"{'x' + str(at) if at else 'pc'} = 0x{value:0{bits // 4}x}" for at, value in enumerate(registers)]

@@ -7,6 +7,7 @@ pub mod choices_rows;
 pub mod example_rows;
 pub mod facts_rows;
 pub mod instances_rows;
+pub mod mapping_rows;
 pub mod members_rows;
 pub mod patterns_rows;
 pub mod riscv_rows;

@@ -269,6 +269,65 @@ register PC : bits(8)
 register PC : bits(8)
 # { PC = PC + 0x01; true }
 # 6 E13 2
+% run --elf Q --steps 1 M // the machine that a model is for, where a number says it
+let elf_machine = 62
+register PC : bits(8)
+# { PC = PC + 0x01; true }
+# 6 E7
+% run --elf Q --steps 1 M
+let elf_machine = 243
+register PC : bits(8)
+# { PC = PC + 0x01; true }
+# 0 == report
+stop steps-done
+steps 1
+console 0
+hart 0
+PC = 0x01
+== end
+% run --elf Q --steps 1 M
+let elf_machine = (62)
+register PC : bits(8)
+# { PC = PC + 0x01; true }
+# 6 E7
+% run --elf Q --steps 1 M
+let elf_machine : range(0, 255) = 62
+register PC : bits(8)
+# { PC = PC + 0x01; true }
+# 6 E7
+% run --elf Q --steps 1 M
+let elf_machine = 0x3e
+register PC : bits(8)
+# { PC = PC + 0x01; true }
+# 0 == report
+stop steps-done
+steps 1
+console 0
+hart 0
+PC = 0x01
+== end
+% run --elf Q --steps 1 M
+let elf_machine = 62 : range(0, 255)
+register PC : bits(8)
+# { PC = PC + 0x01; true }
+# 0 == report
+stop steps-done
+steps 1
+console 0
+hart 0
+PC = 0x01
+== end
+% run --elf Q --steps 1 M
+let elf_machine = 60 + 2
+register PC : bits(8)
+# { PC = PC + 0x01; true }
+# 0 == report
+stop steps-done
+steps 1
+console 0
+hart 0
+PC = 0x01
+== end
 % run --elf P M Q // tokens, of all models first
 )#
 # 1 M01 2:1:1 7f

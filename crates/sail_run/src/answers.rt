@@ -3,8 +3,8 @@ use sail_outside::{MemShelf, MemSink};
 use sail_rows::shipped_models::{RV32_BEGIN, RV32_END, RV32A, RV32I, RV32M, TOY16};
 use sail_rows::shipped_rv64::{RV64_BEGIN, RV64A, RV64I, RV64M};
 use sail_rows::{
-    checks_rows, choices_rows, example_rows, facts_rows, instances_rows, members_rows,
-    patterns_rows, shapes_rows, tables_rows, tutorial_rows, words_rows,
+    checks_rows, choices_rows, example_rows, facts_rows, instances_rows, mapping_rows,
+    members_rows, patterns_rows, shapes_rows, tables_rows, tutorial_rows, words_rows,
 };
 use sail_top::{Jib, run_words};
 use std::alloc::{AllocError, Global};
@@ -321,6 +321,11 @@ fn facts_are_answered(rt: HostRuntime) -> Result<(), Fail> {
 #[test]
 fn models_of_the_tutorial_are_answered(rt: HostRuntime) -> Result<(), Fail> {
     rows_answered(&rt, rt.alloc(), tutorial_rows::TUTORIAL, 4096)
+}
+
+#[test]
+fn mappings_in_patterns_are_run(rt: HostRuntime) -> Result<(), Fail> {
+    rows_answered(&rt, rt.alloc(), mapping_rows::RUNS, 4096)
 }
 
 #[test]

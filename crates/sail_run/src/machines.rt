@@ -126,6 +126,16 @@ fn whole_reports_are_written(rt: HostRuntime) -> Result<(), Fail> {
 }
 
 #[test]
+fn programs_of_another_machine_are_refused(rt: HostRuntime) -> Result<(), Fail> {
+    let alloc = rt.alloc();
+    for machine in [RV32IMA, RV64IMA] {
+        let written = ran(alloc, machine, stops_rows::OTHER_MACHINE, "")?;
+        assert!(rt; written.as_slice() == "6 E7\n".as_bytes());
+    }
+    Ok(())
+}
+
+#[test]
 fn harts_run_in_any_order_on_rv32(rt: HostRuntime) -> Result<(), Fail> {
     all_ran_on_harts(&rt, rt.alloc(), RV32IMA, riscv_rows::HARTS_32)
 }
